@@ -1,0 +1,22 @@
+-- `PlanEntry::satisfiable` meets its contract: what `Condition::bit` and `is_set` ensure, put together. Assumes nothing.
+use borrow.Author.Needs.{needs}
+use Rattle.rules.specs.Words.{satisfiable}
+use Rattle.rules.proofs.PlanEntry.satisfiable.Statement.{statement}
+use Rattle.rules.proofs.PlanEntry.satisfiable.Tie as tie
+
+returns : tie.Need-returns
+unfolding satisfiable
+returns c = cc
+
+pub satisfiable-spec : {M : Type 1} → statement M
+satisfiable-spec =
+    tie.close
+    (tie.spec
+    (λ c κs. search needs)
+    (λ c. search needs)
+    (λ c κs. search needs)
+    (λ c. search needs)
+    (λ c κs. search needs)
+    (λ c. search needs)
+    (λ c κs. search needs)
+    returns)

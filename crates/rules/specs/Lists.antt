@@ -1,0 +1,52 @@
+-- The few general notions that the definitions use: tests over a list of plans, and the least number that passes a test. Assumes nothing.
+use Prim.Native.Nat.{ℕ, zero, suc, _+_}
+use mathlib.Core.Bool.{Bool, true, false, cond, _&&_, _||_}
+use mathlib.Core.List.{List, [], _∷_}
+use lib.Dec.{eqb}
+use Rattle.rules.specs.declared.Found.{Found}
+use Rattle.rules.specs.declared.Found.the-variants.{Nowhere, At}
+
+-- all plans of a list pass a test
+abbrev pub all : (ℕ → Bool) → List ℕ → Bool
+all f [] = true
+all f (p ∷ ps) = f p && all f ps
+
+-- some plan of a list passes a test
+abbrev pub some : (ℕ → Bool) → List ℕ → Bool
+some f [] = false
+some f (p ∷ ps) = f p || some f ps
+
+-- how many plans of a list pass a test
+abbrev pub count : (ℕ → Bool) → List ℕ → ℕ
+count f [] = 0
+count f (p ∷ ps) = cond (f p) 1 0 + count f ps
+
+-- the number that no plan has
+abbrev pub noPlan : ℕ
+noPlan = 65535
+
+-- the first plan of a list that passes a test, or `noPlan`
+abbrev pub first : (ℕ → Bool) → List ℕ → ℕ
+first f [] = noPlan
+first f (p ∷ ps) = cond (f p) p (first f ps)
+
+-- two lists of bytes are the same
+abbrev pub same : List ℕ → List ℕ → Bool
+same [] [] = true
+same [] (y ∷ ys) = false
+same (x ∷ xs) [] = false
+same (x ∷ xs) (y ∷ ys) = eqb x y && same xs ys
+
+-- the least of the k numbers from p on that passes a test
+unfoldable pub leastFrom : (ℕ → Bool) → ℕ → ℕ → Found
+leastFrom f p zero = Nowhere
+leastFrom f p (suc k) = elim (f p) [ true ↦ At p | false ↦ leastFrom f (p + 1) k ]
+
+-- the least number below n that passes a test
+abbrev pub least : (ℕ → Bool) → ℕ → Found
+least f n = leastFrom f 0 n
+
+-- the highest number below n that passes a test, or 0
+unfoldable pub highest : (ℕ → Bool) → ℕ → ℕ
+highest f zero = 0
+highest f (suc k) = cond (f k) k (highest f k)

@@ -1,0 +1,28 @@
+-- Document 01, 'Rest': running under held words. Assumes nothing.
+use Prim.Native.Nat.{ℕ, zero, suc}
+use mathlib.Core.Bool.{Bool}
+use mathlib.Core.List.{List}
+use Rattle.rules.specs.Lists.{same, least}
+use Rattle.rules.specs.Step.{step}
+use Rattle.rules.specs.declared.Found.{Found}
+use Rattle.rules.specs.declared.Found.the-variants.{Nowhere, At}
+
+module _ (t s w : List ℕ) where
+  -- the states after k steps
+  unfoldable pub after : ℕ → List ℕ
+  after zero = s
+  after (suc k) = step t (after k) w
+
+  -- after k steps one more changes nothing
+  abbrev pub atRest : ℕ → Bool
+  atRest k = same (step t (after k) w) (after k)
+
+  -- the least such k up to the budget, if there is one
+  unfoldable pub restAt : ℕ → Found
+  unfolding after
+  restAt budget = least atRest (suc budget)
+
+  -- the states after that k, or after the whole budget
+  abbrev pub afterRest : ℕ → Found → List ℕ
+  afterRest budget (At k) = after k
+  afterRest budget Nowhere = after budget

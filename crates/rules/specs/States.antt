@@ -1,0 +1,64 @@
+-- Document 01, 'States': the nine states, their codes and the three groups. Assumes nothing.
+-- `code` is the one place of the definitions with these numbers; `PlanState::to_byte` holds it to the constants of the source.
+use Prim.Native.Nat.{ℕ}
+use mathlib.Core.Bool.{Bool, false, _||_}
+use mathlib.Core.List.{List, [], _∷_}
+use lib.ListN.{getD, length}
+use lib.Dec.{eqb, ltb}
+use Rattle.rules.specs.Bytes.{byte}
+use Rattle.rules.specs.declared.PlanState.{PlanState}
+use Rattle.rules.specs.declared.PlanState.the-variants.{
+  Inactive,
+  Considered,
+  Possible,
+  Ready,
+  Activated,
+  Suspended,
+  Completed,
+  Aborted,
+  Rejected,
+}
+
+abbrev pub code : PlanState → ℕ
+code Inactive = 0
+code Considered = 1
+code Possible = 2
+code Ready = 3
+code Activated = 4
+code Suspended = 5
+code Completed = 6
+code Aborted = 7
+code Rejected = 8
+
+-- the states in the order of their codes
+abbrev pub inOrder : List PlanState
+inOrder = Inactive ∷ Considered ∷ Possible ∷ Ready ∷ Activated ∷ Suspended ∷ Completed ∷ Aborted ∷ Rejected ∷ []
+
+-- a byte is the code of a state: 0 to 8
+abbrev pub isCode : ℕ → Bool
+isCode b = ltb b (length inOrder)
+
+-- the state that a byte stands for; one that is no code counts as Rejected, and is refused before it is read
+abbrev pub stateOf : ℕ → PlanState
+stateOf b = getD inOrder b Rejected
+
+-- the state of plan p in a list of states, a byte a plan
+unfoldable pub stateAt : List ℕ → ℕ → PlanState
+stateAt s p = stateOf (byte s p)
+
+-- the state is one of a few
+abbrev pub oneOf : List PlanState → PlanState → Bool
+oneOf [] x = false
+oneOf (y ∷ ys) x = eqb (code x) (code y) || oneOf ys x
+
+abbrev pub is : PlanState → PlanState → Bool
+is y x = oneOf (y ∷ []) x
+
+abbrev pub inSelection : PlanState → Bool
+inSelection x = oneOf (Considered ∷ Possible ∷ Ready ∷ []) x
+
+abbrev pub inExecution : PlanState → Bool
+inExecution x = oneOf (Activated ∷ Suspended ∷ []) x
+
+abbrev pub ended : PlanState → Bool
+ended x = oneOf (Completed ∷ Aborted ∷ Rejected ∷ []) x

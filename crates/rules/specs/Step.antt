@@ -1,0 +1,167 @@
+-- Document 01, 'One step': what children's states mean to a plan, what each body orders, one move, one step. Assumes nothing.
+use Prim.Native.Nat.{ℕ, zero, suc}
+use mathlib.Core.Bool.{Bool, true, false, cond, not, _&&_, _||_}
+use mathlib.Core.List.{List, [], _∷_, _++_}
+use lib.ListN.{getD}
+use lib.Dec.{eqb}
+use Rattle.rules.specs.Lists.{all, some, first}
+use Rattle.rules.specs.States.{code, stateAt, oneOf, is, inExecution, ended}
+use Rattle.rules.specs.Table.{plans, parent, entry, bodyOf, retryAborted, waitForOptional, children, waitFor}
+use Rattle.rules.specs.Words.{word, pickOf, holds, satisfiable}
+use Rattle.rules.specs.declared.Body.{Body}
+use Rattle.rules.specs.declared.Body.the-variants.{Leaf, Sequential, Parallel, AnyOrder, Unordered}
+use Rattle.rules.specs.declared.PlanEntry.{PlanEntry}
+use Rattle.rules.specs.declared.Orders.{Orders}
+use Rattle.rules.specs.declared.Condition.the-variants.{Filter, Setup, Suspend, Reactivate, Abort, Complete}
+use Rattle.rules.specs.declared.PlanState.{PlanState}
+use Rattle.rules.specs.declared.PlanState.the-variants.{
+  Inactive,
+  Considered,
+  Possible,
+  Ready,
+  Activated,
+  Suspended,
+  Completed,
+  Aborted,
+  Rejected,
+}
+
+-- One move, by the parent's new state. It knows no tree: `o` is what the parent orders, `lost` says that too many children are
+-- lost, and `complete` that the children let the plan complete.
+
+-- under a parent in execution, by the plan's old state; `held` says that the parent is Suspended
+abbrev pub moveOn : Bool → Orders → PlanEntry → ℕ → Bool → Bool → PlanState → PlanState
+moveOn held o e x lost complete Inactive = cond (o .considers) Considered Inactive
+moveOn held o e x lost complete Considered =
+    cond (holds Filter e x) Possible (cond (not (satisfiable Filter e x)) Rejected Considered)
+moveOn held o e x lost complete Possible =
+    cond (holds Setup e x) Ready (cond (not (satisfiable Setup e x)) Rejected Possible)
+moveOn held o e x lost complete Ready = cond (o .activates) Activated Ready
+moveOn held o e x lost complete Activated =
+    cond (holds Abort e x || lost) Aborted
+    (cond (held || holds Suspend e x) Suspended
+    (cond (holds Complete e x && complete) Completed Activated))
+moveOn held o e x lost complete Suspended =
+    cond (holds Abort e x || lost) Aborted (cond (not held && holds Reactivate e x) Activated Suspended)
+moveOn held o e x lost complete Completed = Completed
+moveOn held o e x lost complete Aborted = cond (o .retries) Considered Aborted
+moveOn held o e x lost complete Rejected = Rejected
+
+-- under an ended parent: selection becomes Rejected, execution Aborted, all else stays
+abbrev pub cutOff : PlanState → PlanState
+cutOff Inactive = Inactive
+cutOff Considered = Rejected
+cutOff Possible = Rejected
+cutOff Ready = Rejected
+cutOff Activated = Aborted
+cutOff Suspended = Aborted
+cutOff Completed = Completed
+cutOff Aborted = Aborted
+cutOff Rejected = Rejected
+
+abbrev pub move : PlanState → Orders → PlanEntry → ℕ → Bool → Bool → PlanState → PlanState
+move Inactive o e x lost complete old = Inactive
+move Considered o e x lost complete old = Inactive
+move Possible o e x lost complete old = Inactive
+move Ready o e x lost complete old = Inactive
+move Activated o e x lost complete old = moveOn false o e x lost complete old
+move Suspended o e x lost complete old = moveOn true o e x lost complete old
+move Completed o e x lost complete old = cutOff old
+move Aborted o e x lost complete old = cutOff old
+move Rejected o e x lost complete old = cutOff old
+
+-- Orders.
+
+abbrev pub none : Orders
+none = record { considers = false; activates = false; retries = false }
+
+-- what a body orders one child: `again` is its retry-aborted, `next` says that the child is the first not done, `gate` that the
+-- parallel gate is open, `chosen` that the child is the one which any-order activates
+abbrev pub ordersOf : Body → Bool → Bool → Bool → Bool → Orders
+ordersOf Leaf again next gate chosen = none
+ordersOf Sequential again next gate chosen = record { considers = next; activates = next; retries = again && next }
+ordersOf Parallel again next gate chosen = record { considers = true; activates = gate; retries = again }
+ordersOf AnyOrder again next gate chosen = record { considers = true; activates = chosen; retries = again }
+ordersOf Unordered again next gate chosen = record { considers = true; activates = true; retries = again }
+
+-- a sequential plan, with or without retry-aborted, is done with a child
+abbrev pub done : Bool → PlanState → Bool
+done again x = oneOf (Completed ∷ Rejected ∷ []) x || is Aborted x && not again
+
+-- The children of a plan, by the old states s.
+module _ (t s : List ℕ) where
+  -- wait-for fails of the children that are neither Rejected nor Aborted
+  unfoldable pub tooManyLost : ℕ → Bool
+  tooManyLost p = not (waitFor t p (λ c. not (oneOf (Rejected ∷ Aborted ∷ []) (stateAt s c))))
+
+  -- wait-for holds of the Completed children, and, with wait-for-optional, all children are ended
+  unfoldable pub mayComplete : ℕ → Bool
+  mayComplete p =
+      waitFor t p (λ c. is Completed (stateAt s c))
+      && (not (waitForOptional (entry t p)) || all (λ c. ended (stateAt s c)) (children t p))
+
+  -- sequential: the first child not done
+  unfoldable pub firstNotDone : ℕ → ℕ
+  firstNotDone q = first (λ c. not (done (retryAborted (entry t q)) (stateAt s c))) (children t q)
+
+  -- parallel: no child is 0, 1 or 2, or some child is 4, 5, 6 or 7
+  unfoldable pub gateOpen : ℕ → Bool
+  gateOpen q =
+      not (some (λ c. oneOf (Inactive ∷ Considered ∷ Possible ∷ []) (stateAt s c)) (children t q))
+      || some (λ c. oneOf (Activated ∷ Suspended ∷ Completed ∷ Aborted ∷ []) (stateAt s c)) (children t q)
+
+  -- any-order: no child is in execution and, with retry-aborted, none is Aborted
+  unfoldable pub mayActivate : ℕ → Bool
+  mayActivate q =
+      not (some (λ c. inExecution (stateAt s c)) (children t q))
+      && not (retryAborted (entry t q) && some (λ c. is Aborted (stateAt s c)) (children t q))
+
+  -- any-order: the Ready child whose rank is the pick, else the Ready child of lowest rank
+  unfoldable pub chosen : (ℕ → ℕ) → ℕ → ℕ
+  chosen pick q =
+      let lowest : ℕ = first (λ c. is Ready (stateAt s c)) (children t q) in
+      let picked : ℕ = getD (children t q) (pick q) lowest in
+      cond (is Ready (stateAt s picked)) picked lowest
+
+  -- what plan q orders its child p to do, given which child it chooses if it is any-order
+  unfoldable pub orders : (ℕ → ℕ) → ℕ → ℕ → Orders
+  unfolding firstNotDone gateOpen mayActivate
+  orders choice q p =
+      ordersOf (bodyOf (entry t q)) (retryAborted (entry t q)) (eqb p (firstNotDone q)) (gateOpen q)
+      (mayActivate q && eqb p (choice q))
+
+-- One step, from the old states s under the words w, with the child that each any-order plan chooses.
+module _ (t s w : List ℕ) (choice : ℕ → ℕ) where
+  -- plan p under a parent in a new state that orders so
+  abbrev pub moveOf : PlanState → Orders → ℕ → PlanState
+  moveOf is o p = move is o (entry t p) (word w p) (tooManyLost t s p) (mayComplete t s p) (stateAt s p)
+
+  -- a parent orders only in a step where it was and stays Activated
+  abbrev pub ordersIf : PlanState → PlanState → ℕ → ℕ → Orders
+  ordersIf was now q p = cond (is Activated was && is Activated now) (orders t s choice q p) none
+
+  -- the new state of plan p, once the plans below it have theirs: the parent's new state is read there, all else is old.
+  -- The root: as if under a parent that stays Activated, that considers it when Inactive and activates it when Ready
+  abbrev pub newState : List ℕ → ℕ → PlanState
+  newState new zero = moveOf Activated (record { considers = true; activates = true; retries = false }) 0
+  newState new (suc k) =
+      let q : ℕ = parent t (suc k) in
+      moveOf (stateAt new q) (ordersIf (stateAt s q) (stateAt new q) q (suc k)) (suc k)
+
+  -- the new states of the plans below k: plans move in table order
+  unfoldable pub stepBelow : ℕ → List ℕ
+  stepBelow zero = []
+  stepBelow (suc k) = let new : List ℕ = stepBelow k in new ++ (code (newState new k) ∷ [])
+
+  unfoldable pub stepBy : List ℕ
+  unfolding stepBelow
+  stepBy = stepBelow (plans t)
+
+-- one step under picks, and under the picks of the words
+unfoldable pub stepUnder : List ℕ → List ℕ → List ℕ → (ℕ → ℕ) → List ℕ
+unfolding stepBy chosen
+stepUnder t s w pick = stepBy t s w (chosen t s pick)
+
+unfoldable pub step : List ℕ → List ℕ → List ℕ → List ℕ
+unfolding stepUnder
+step t s w = stepUnder t s w (λ q. pickOf (word w q))

@@ -1,0 +1,103 @@
+-- Document 01, 'Plan table': the header, a plan's eight bytes, the tree, and wait-for. Assumes nothing.
+use Prim.Native.Nat.{ℕ, zero, suc, _+_, _*_}
+use mathlib.Core.Bool.{Bool, true, false, cond, not, _&&_, _||_}
+use mathlib.Core.List.{List, [], _∷_, _++_}
+use lib.ListN.{getD, length}
+use lib.Dec.{eqb, leb}
+use Rattle.rules.specs.Lists.{count}
+use Rattle.rules.specs.Bytes.{byte, half, isSet}
+use Rattle.rules.specs.declared.PlanEntry.{PlanEntry}
+use Rattle.rules.specs.declared.Body.{Body}
+use Rattle.rules.specs.declared.Body.the-variants.{Leaf, Sequential, Parallel, AnyOrder, Unordered}
+use Rattle.rules.specs.declared.Condition.{Condition}
+use Rattle.rules.specs.declared.Condition.the-variants.{Filter, Setup, Suspend, Reactivate, Abort, Complete}
+
+-- the header: three bytes of mark, the version, the plan count n, a last byte
+abbrev pub version : List ℕ → ℕ
+version t = half t 3
+
+abbrev pub plans : List ℕ → ℕ
+plans t = half t 5
+
+-- the eight bytes of plan p
+abbrev pub entry : List ℕ → ℕ → PlanEntry
+entry t p =
+    let at : ℕ = 8 + 8 * p in
+    record {
+      parent = half t at;
+      body = byte t (at + 2);
+      flags = byte t (at + 3);
+      present = byte t (at + 4);
+      manual = byte t (at + 5);
+      overridable = byte t (at + 6);
+      wait = byte t (at + 7);
+    }
+
+-- byte 2: the body
+abbrev pub bodyOf : PlanEntry → Body
+bodyOf e = getD (Leaf ∷ Sequential ∷ Parallel ∷ AnyOrder ∷ []) (e .body) Unordered
+
+abbrev pub isLeaf : Body → Bool
+isLeaf Leaf = true
+isLeaf Sequential = false
+isLeaf Parallel = false
+isLeaf AnyOrder = false
+isLeaf Unordered = false
+
+-- byte 3: the flags
+abbrev pub retryAborted : PlanEntry → Bool
+retryAborted e = isSet 0 (e .flags)
+
+abbrev pub waitForOptional : PlanEntry → Bool
+waitForOptional e = isSet 1 (e .flags)
+
+abbrev pub named : PlanEntry → Bool
+named e = isSet 2 (e .flags)
+
+-- bytes 4 to 6: the bit of each condition
+abbrev pub bitOf : Condition → ℕ
+bitOf Filter = 0
+bitOf Setup = 1
+bitOf Suspend = 2
+bitOf Reactivate = 3
+bitOf Abort = 4
+bitOf Complete = 5
+
+abbrev pub conditions : List Condition
+conditions = Filter ∷ Setup ∷ Suspend ∷ Reactivate ∷ Abort ∷ Complete ∷ []
+
+-- byte 7: the wait number is reached by k named children
+abbrev pub enough : PlanEntry → ℕ → Bool
+enough e k = leb (e .wait) k
+
+module _ (t : List ℕ) where
+  abbrev pub parent : ℕ → ℕ
+  parent p = entry t p .parent
+
+  -- p is a child of q; plan 0 is nobody's child
+  abbrev pub isChild : ℕ → ℕ → Bool
+  isChild q zero = false
+  isChild q (suc p) = eqb (parent (suc p)) q
+
+  -- the children of q among the plans below k, in the order of their ranks
+  unfoldable pub childrenBelow : ℕ → ℕ → List ℕ
+  childrenBelow q zero = []
+  childrenBelow q (suc k) = childrenBelow q k ++ cond (isChild q k) (k ∷ []) []
+
+  unfoldable pub children : ℕ → List ℕ
+  unfolding childrenBelow
+  children q = childrenBelow q (plans t)
+
+  -- the rank of plan p among its siblings
+  unfoldable pub rank : ℕ → ℕ
+  unfolding childrenBelow
+  rank p = length (childrenBelow (parent p) p)
+
+  -- a is plan p or an ancestor of it; k bounds how far up is looked, and p is far enough
+  unfoldable pub isOrIsAbove : ℕ → ℕ → ℕ → Bool
+  isOrIsAbove a zero p = eqb a p
+  isOrIsAbove a (suc k) p = eqb a p || not (eqb p 0) && isOrIsAbove a k (parent p)
+
+  -- wait-for of plan p holds of its children that pass a test
+  abbrev pub waitFor : ℕ → (ℕ → Bool) → Bool
+  waitFor p f = enough (entry t p) (count (λ c. named (entry t c) && f c) (children p))

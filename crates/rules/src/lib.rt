@@ -1,0 +1,310 @@
+// What a plan, its table entry and its input word are, and what every call answers: the words of document 01.
+// The rules themselves are the definitions of specs/; each function here meets one of them. Assumes nothing.
+ghost use mathlib.Core.Path.{_≡_};
+ghost use Prim.Native.Nat.{_+_, _*_, _<_, _≤_};
+ghost use lib.Count.{ones};
+ghost use lib.ListN.{length};
+ghost use Rattle.rules.specs.Bytes.{isSet, half, quad};
+ghost use Rattle.rules.specs.States.{code, stateOf, ended};
+ghost use Rattle.rules.specs.Table.{bitOf, entry, enough};
+ghost use Rattle.rules.specs.Words.{word, absentHolds, presentHolds, holds, satisfiable};
+
+// The state of a plan.
+pub enum PlanState {
+    Inactive,
+    Considered,
+    Possible,
+    Ready,
+    Activated,
+    Suspended,
+    Completed,
+    Aborted,
+    Rejected,
+}
+
+impl PlanState {
+    pub const INACTIVE: u8 = 0;
+
+    pub const CONSIDERED: u8 = 1;
+
+    pub const POSSIBLE: u8 = 2;
+
+    pub const READY: u8 = 3;
+
+    pub const ACTIVATED: u8 = 4;
+
+    pub const SUSPENDED: u8 = 5;
+
+    pub const COMPLETED: u8 = 6;
+
+    pub const ABORTED: u8 = 7;
+
+    pub const REJECTED: u8 = 8;
+
+    // The code of the state.
+    pub fn to_byte(self) -> u8
+        ensures { λ r. ⌜ r ≡ code self ⌝ }
+    {
+        match self {
+            PlanState::Inactive => PlanState::INACTIVE,
+            PlanState::Considered => PlanState::CONSIDERED,
+            PlanState::Possible => PlanState::POSSIBLE,
+            PlanState::Ready => PlanState::READY,
+            PlanState::Activated => PlanState::ACTIVATED,
+            PlanState::Suspended => PlanState::SUSPENDED,
+            PlanState::Completed => PlanState::COMPLETED,
+            PlanState::Aborted => PlanState::ABORTED,
+            PlanState::Rejected => PlanState::REJECTED,
+        }
+    }
+
+    // The state whose code is b. A byte above 8 is no code: check 11 or 15 refuses it, and here it counts as Rejected.
+    pub fn from_byte(b: u8) -> PlanState
+        ensures { λ r. ⌜ r ≡ stateOf b ⌝ }
+    {
+        match b {
+            PlanState::INACTIVE => PlanState::Inactive,
+            PlanState::CONSIDERED => PlanState::Considered,
+            PlanState::POSSIBLE => PlanState::Possible,
+            PlanState::READY => PlanState::Ready,
+            PlanState::ACTIVATED => PlanState::Activated,
+            PlanState::SUSPENDED => PlanState::Suspended,
+            PlanState::COMPLETED => PlanState::Completed,
+            PlanState::ABORTED => PlanState::Aborted,
+            PlanState::REJECTED => PlanState::Rejected,
+            _ => PlanState::Rejected,
+        }
+    }
+
+    // Whether the plan has ended.
+    pub fn is_ended(self) -> bool
+        ensures { λ r. ⌜ r ≡ ended self ⌝ }
+    {
+        match self {
+            PlanState::Inactive => false,
+            PlanState::Considered => false,
+            PlanState::Possible => false,
+            PlanState::Ready => false,
+            PlanState::Activated => false,
+            PlanState::Suspended => false,
+            PlanState::Completed => true,
+            PlanState::Aborted => true,
+            PlanState::Rejected => true,
+        }
+    }
+}
+
+// The body of a plan: how it orders its children about.
+pub enum Body {
+    Leaf,
+    Sequential,
+    Parallel,
+    AnyOrder,
+    Unordered,
+}
+
+// A condition of a plan.
+pub enum Condition {
+    Filter,
+    Setup,
+    Suspend,
+    Reactivate,
+    Abort,
+    Complete,
+}
+
+impl Condition {
+    // The bit that stands for the condition in a plan's bytes 4 to 6 and, from several places on, in its input word.
+    pub fn bit(self) -> u32
+        ensures is { λ r. ⌜ r ≡ bitOf self ⌝ }
+        ensures small { λ r. ⌜ r < 6 ⌝ }
+    {
+        match self {
+            Condition::Filter => 0,
+            Condition::Setup => 1,
+            Condition::Suspend => 2,
+            Condition::Reactivate => 3,
+            Condition::Abort => 4,
+            Condition::Complete => 5,
+        }
+    }
+
+    // Whether the condition holds of a plan that does not have it.
+    pub fn absent_holds(self) -> bool
+        ensures { λ r. ⌜ r ≡ absentHolds self ⌝ }
+    {
+        match self {
+            Condition::Filter => true,
+            Condition::Setup => true,
+            Condition::Suspend => false,
+            Condition::Reactivate => true,
+            Condition::Abort => false,
+            Condition::Complete => true,
+        }
+    }
+}
+
+// Whether bit k of x is set.
+pub fn is_set(x: u32, k: u32) -> bool
+    requires { ⌜ k < 32 ⌝ }
+    ensures { λ r. ⌜ r ≡ isSet k x ⌝ }
+{
+    (x >> k) % 2 == 1
+}
+
+// A plan's eight bytes of the table.
+pub struct PlanEntry {
+    pub parent: u16,
+    pub body: u8,
+    pub flags: u8,
+    pub present: u8,
+    pub manual: u8,
+    pub overridable: u8,
+    pub wait: u8,
+}
+
+impl PlanEntry {
+    // Whether the condition at bit k, which the plan has, holds under the input word.
+    fn present_holds(self, k: u32, word: u32) -> bool
+        requires { ⌜ k < 6 ⌝ }
+        ensures { λ r. ⌜ r ≡ presentHolds k self word ⌝ }
+    {
+        let triggered = !is_set(self.manual as u32, k) | is_set(word, 8 + k);
+        let overridden = is_set(self.overridable as u32, k) & is_set(word, 14 + k);
+        (is_set(word, k) & triggered) | overridden
+    }
+
+    // Whether the condition holds of the plan under its input word.
+    pub fn holds(self, c: Condition, word: u32) -> bool
+        ensures { λ r. ⌜ r ≡ holds c self word ⌝ }
+    {
+        let k = c.bit();
+        if is_set(self.present as u32, k) {
+            self.present_holds(k, word)
+        } else {
+            c.absent_holds()
+        }
+    }
+
+    // Whether the plan's filter or setup is satisfiable under its input word.
+    pub fn satisfiable(self, c: Condition, word: u32) -> bool
+        ensures { λ r. ⌜ r ≡ satisfiable c self word ⌝ }
+    {
+        let k = c.bit();
+        !is_set(self.present as u32, k) | is_set(word, 6 + k) | is_set(self.overridable as u32, k)
+    }
+
+    // Whether wait-for holds of a set of named children, a bit for each.
+    pub fn wait_for(self, set: u64) -> bool
+        ensures { λ r. ⌜ r ≡ enough self (ones set) ⌝ }
+    {
+        self.wait as u32 <= u64::count_ones(set)
+    }
+}
+
+// What a parent orders a child to do.
+pub struct Orders {
+    pub considers: bool,
+    pub activates: bool,
+    pub retries: bool,
+}
+
+// The least number that a search looks for.
+pub enum Found {
+    Nowhere,
+    At(usize),
+}
+
+// Why a call is refused: document 01's answer numbers, in their order.
+pub enum Refusal {
+    TableShort,
+    TableMark,
+    TableVersion,
+    TableCount,
+    TableLength,
+    Parent { plan: u16 },
+    Unused { plan: u16 },
+    Unfit { plan: u16 },
+    Wait { plan: u16 },
+    Lengths,
+    State { plan: u16 },
+    Word { step: u16, plan: u16 },
+    RecordHeader,
+    RecordLength,
+    Unexplained { step: u16, plan: u16 },
+    InputLong,
+}
+
+// The number of a refusal and its place: unnamed places are 0.
+pub struct Place {
+    pub number: u8,
+    pub step: u16,
+    pub plan: u16,
+}
+
+// What a check or a step answers.
+pub enum Outcome {
+    Done,
+    Refused(Refusal),
+}
+
+// What a whole table answers, with its plans, and a whole record, with its steps.
+pub enum Verdict {
+    Accepted(u16),
+    Refused(Refusal),
+}
+
+// What a run to rest answers.
+pub enum Rest {
+    Rested(u16),
+    Moving,
+    Refused(Refusal),
+}
+
+// The entry of plan p in a table that has one.
+pub fn entry_at(table: &[u8], p: usize) -> PlanEntry
+    requires { ⌜ 8 * p + 16 ≤ length (now table) ⌝ }
+    ensures { λ r. ⌜ r ≡ entry (now (table .entry)) p ⌝ }
+{
+    let at = 8 + 8 * p;
+    PlanEntry {
+        parent: half_at(table, at),
+        body: table[at + 2],
+        flags: table[at + 3],
+        present: table[at + 4],
+        manual: table[at + 5],
+        overridable: table[at + 6],
+        wait: table[at + 7],
+    }
+}
+
+// The input word of plan p among words that have one.
+pub fn word_at(words: &[u8], p: usize) -> u32
+    requires { ⌜ 4 * p + 4 ≤ length (now words) ⌝ }
+    ensures { λ r. ⌜ r ≡ word (now (words .entry)) p ⌝ }
+{
+    quad_at(words, 4 * p)
+}
+
+// The 16-bit number at a place of a slice.
+pub fn half_at(s: &[u8], i: usize) -> u16
+    requires { ⌜ i + 2 ≤ length (now s) ⌝ }
+    ensures { λ r. ⌜ r ≡ half (now (s .entry)) i ⌝ }
+{
+    wide(s[i]) + 256 * wide(s[i + 1])
+}
+
+// The 32-bit number at a place of a slice.
+fn quad_at(s: &[u8], i: usize) -> u32
+    requires { ⌜ i + 4 ≤ length (now s) ⌝ }
+    ensures { λ r. ⌜ r ≡ quad (now (s .entry)) i ⌝ }
+{
+    half_at(s, i) as u32 + 65536 * (half_at(s, i + 2) as u32)
+}
+
+// A byte as a wider number: named, so that a reader of it has its bound.
+fn wide(x: u8) -> u16
+    ensures { λ r. ⌜ (r ≡ x) × (r < 256) ⌝ }
+{
+    x as u16
+}
