@@ -86,6 +86,10 @@ abbrev pub _andThen_ : Outcome → Outcome → Outcome
 Done andThen next = next
 Refused why andThen next = Refused why
 
+abbrev pub isDone : Outcome → Bool
+isDone Done = true
+isDone (Refused why) = false
+
 -- refused if a test says so; at the plan that was found
 abbrev pub refuseIf : Bool → Refusal → Outcome
 refuseIf b why = cond b (Refused why) Done

@@ -35,6 +35,7 @@ use Rattle.rules.specs.Answers.{
   breaksWait,
   headerCheck,
   tableCheck,
+  tableVerdict,
   breaksWord,
   callCheck,
   statesAfterStep,
@@ -74,6 +75,18 @@ chain =
     ∷ 0x01 ∷ 0x00 ∷ 0x00 ∷ 0x00 ∷ 0x00 ∷ 0x00 ∷ 0x00 ∷ 0x00
     ∷ []
 
+-- an unordered root with k leaves
+leaves : ℕ → List ℕ
+leaves zero = []
+leaves (suc k) = 0x00 ∷ 0x00 ∷ 0x00 ∷ 0x00 ∷ 0x00 ∷ 0x00 ∷ 0x00 ∷ 0x00 ∷ leaves k
+
+star : ℕ → List ℕ
+unfolding leaves
+star k =
+    0x41 ∷ 0x50 ∷ 0x54 ∷ 0x01 ∷ 0x00 ∷ suc k ∷ 0x00 ∷ 0x00
+    ∷ 0xFF ∷ 0xFF ∷ 0x04 ∷ 0x00 ∷ 0x00 ∷ 0x00 ∷ 0x00 ∷ 0x00
+    ∷ leaves k
+
 -- three states as document 01 writes them, and three words
 states : ℕ → List ℕ
 states n = n / 100 ∷ n / 10 % 10 ∷ n % 10 ∷ []
@@ -96,6 +109,8 @@ pub data Row : Type 0 where
   rests : List ℕ → ℕ → ℕ → ℕ → ℕ → Row
   -- a run from the states under a budget: still moving, with these states
   moves : List ℕ → ℕ → ℕ → ℕ → Row
+  -- a table accepted with so many plans
+  accepts : List ℕ → ℕ → Row
   -- a step refused: table, states, words, number, plan
   refuses : List ℕ → ℕ → List ℕ → ℕ → ℕ → Row
   -- the part of the states that is a plan's sub tree
@@ -113,13 +128,17 @@ isMoving (rest.Rested j) = false
 isMoving rest.Moving = true
 isMoving (rest.Refused why) = false
 
+isAccepted : ℕ → Verdict → Bool
+isAccepted n (verdict.Accepted k) = eqb k n
+isAccepted n (verdict.Refused why) = false
+
 isRefused : ℕ → ℕ → Outcome → Bool
 isRefused number plan Done = false
 isRefused number plan (Refused why) =
     eqb (place why .number) number && eqb (place why .step) 0 && eqb (place why .plan) plan
 
 holdsIn : Row → Bool
-unfolding states words idle isRested isMoving isRefused
+unfolding states words idle isRested isMoving isAccepted isRefused
 holdsIn (steps t from w to) = same (statesAfterStep t (states from) w (callCheck t (states from) w)) (states to)
 holdsIn (rests t from budget k to) =
     let call : Outcome = callCheck t (states from) idle in
@@ -129,6 +148,7 @@ holdsIn (moves t from budget to) =
     let call : Outcome = callCheck t (states from) idle in
     isMoving (runAnswer t (states from) idle budget call)
     && same (statesAfterRun t (states from) idle budget call) (states to)
+holdsIn (accepts t n) = isAccepted n (tableVerdict t (tableCheck t))
 holdsIn (refuses t from w number plan) = isRefused number plan (callCheck t (states from) w)
 holdsIn (shows t from p part) = same (subTree t (states from) p) part
 holdsIn (prints n v told) = same (line n v) (text told)
@@ -179,7 +199,7 @@ marked =
 
 -- rows of our own, beside the programs that run the lines not marked P
 pub ours : List Row
-unfolding T1 T1With chain words idle
+unfolding T1 T1With chain star words idle
 ours =
     -- two of the 'Errors a good programmer makes' that no line marked P refuses: a Suspended plan that completes, and old endings
     -- kept below a retried plan
@@ -191,8 +211,10 @@ ours =
     ∷ refuses T1 444 idle 11 2
     ∷ refuses (T1With 0 0 3 32) 000 idle 9 0
     ∷ refuses (take 31 T1) 000 idle 5 0
-    ∷ refuses (take 5 T1 ++ 1 ∷ drop 6 T1) 000 idle 5 0
     ∷ refuses (take 5 T1 ++ 1 ∷ 1 ∷ drop 7 T1) 000 idle 4 0
+    -- a 65th child: 6; 64 pass
+    ∷ refuses (star 65) 000 idle 6 65
+    ∷ accepts (star 64) 65
     -- the sub tree of the root and of the middle of the chain
     ∷ shows chain 476 0 (4 ∷ 7 ∷ 6 ∷ [])
     ∷ shows chain 476 1 (7 ∷ 6 ∷ [])
@@ -205,7 +227,7 @@ ours =
 
 pub rowsHold : allHold (marked ++ ours) ≡ true
 unfolding
-    allHold marked ours leastFrom highest stateAt childrenBelow children rank isOrIsAbove holds satisfiable tooManyLost mayComplete
+    allHold marked ours leaves leastFrom highest stateAt childrenBelow children rank isOrIsAbove holds satisfiable tooManyLost mayComplete
     firstNotDone gateOpen mayActivate chosen orders stepBelow stepBy stepUnder step breaksState after restAt breaksParent
     breaksBits breaksFit breaksWait headerCheck tableCheck breaksWord callCheck lastDescendant subTree decimalTo
 rowsHold = refl

@@ -1,13 +1,12 @@
 -- Document 01: the program `aprcheck`, from the bytes of its input to the bytes of its line. Assumes nothing.
 use Prim.Native.Nat.{ℕ, zero, suc, _+_, _*_, _/_, _%_, _<_, _≤_}
-use mathlib.Core.Bool.{Bool, cond, _&&_}
+use mathlib.Core.Bool.{cond, _&&_}
 use mathlib.Core.List.{List, [], _∷_, _++_}
 use lib.ListN.{length, take, drop}
 use lib.Dec.{leb, ltb}
 use Rattle.rules.specs.Bytes.{text}
 use Rattle.rules.specs.Table.{plans}
-use Rattle.rules.specs.Answers.{place, headerCheck, Judged}
-use Rattle.rules.specs.SubTree.{isDone}
+use Rattle.rules.specs.Answers.{place, isDone, headerCheck, Judged}
 use Rattle.rules.specs.declared.Refusal.the-variants.{InputLong}
 use Rattle.rules.specs.declared.Verdict.{Verdict}
 use Rattle.rules.specs.declared.Verdict.the-variants.{Accepted, Refused}

@@ -1,19 +1,13 @@
 -- Document 01: the sub tree question. Assumes nothing.
 use Prim.Native.Nat.{ℕ, suc}
-use mathlib.Core.Bool.{Bool, true, false, cond, _&&_}
+use mathlib.Core.Bool.{cond, _&&_}
 use mathlib.Core.List.{List, []}
 use lib.ListN.{length}
 use lib.Seq.{slice}
 use lib.Dec.{eqb, ltb}
 use Rattle.rules.specs.Lists.{highest}
 use Rattle.rules.specs.Table.{plans, isOrIsAbove}
-use Rattle.rules.specs.Answers.{tableCheck}
-use Rattle.rules.specs.declared.Outcome.{Outcome}
-use Rattle.rules.specs.declared.Outcome.the-variants.{Done, Refused}
-
-abbrev pub isDone : Outcome → Bool
-isDone Done = true
-isDone (Refused why) = false
+use Rattle.rules.specs.Answers.{isDone, tableCheck}
 
 module _ (t : List ℕ) where
   -- the last descendant of plan p, or p itself if it has none

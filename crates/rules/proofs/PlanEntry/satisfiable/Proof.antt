@@ -6,7 +6,9 @@ use Rattle.rules.proofs.PlanEntry.satisfiable.Tie as tie
 
 returns : tie.Need-returns
 unfolding satisfiable
-returns c = cc
+returns c =
+    let b = c .before .before in
+    simp (← b .before .before .before .bit .ensures .0, c .is-set3 .ensures, b .is-set2 .ensures, b .before .is-set .ensures)
 
 pub satisfiable-spec : {M : Type 1} → statement M
 satisfiable-spec =
