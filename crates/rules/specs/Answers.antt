@@ -3,14 +3,14 @@
 use Prim.Native.Nat.{ℕ, zero, suc, _+_, _*_, _-_, _%_, _^_, _<_}
 use mathlib.Core.Bool.{Bool, true, false, cond, not, _&&_, _||_, Bool·beq}
 use mathlib.Core.Path.{_≡_}
-use mathlib.Core.List.{List, [], _∷_, map}
+use mathlib.Core.List.{List, map}
 use lib.ListN.{length, take}
 use lib.Dec.{eqb, leb, ltb}
 use Rattle.rules.specs.Lists.{some, count, same, noPlan, least}
-use Rattle.rules.specs.Bytes.{byte, isSet, text}
+use Rattle.rules.specs.Bytes.{byteAt, isSet, text}
 use Rattle.rules.specs.Table.{
   version,
-  plans,
+  planCount,
   entry,
   bodyOf,
   isLeaf,
@@ -24,11 +24,11 @@ use Rattle.rules.specs.Table.{
   rank,
   isOrIsAbove,
 }
-use Rattle.rules.specs.Words.{word, pickOf, pickAllowed, unusedBits, contradicts}
+use Rattle.rules.specs.Words.{word, pickOf, pickAllowed, otherBits, contradicts}
 use Rattle.rules.specs.Step.{step}
-use Rattle.rules.specs.HandedIn.{breaksState}
-use Rattle.rules.specs.Rest.{restAt, afterRest}
-use Rattle.rules.specs.Record.{stepSize, steps, wordsOf, ExplainedBelow}
+use Rattle.rules.specs.HandedIn.{badState}
+use Rattle.rules.specs.Rest.{leastRest, statesAt}
+use Rattle.rules.specs.Record.{stepSize, stepCount, wordsOf, ExplainedFirst}
 use Rattle.rules.specs.declared.Found.{Found}
 use Rattle.rules.specs.declared.Found.the-variants.{Nowhere, At}
 use Rattle.rules.specs.declared.Place.{Place}
@@ -40,7 +40,7 @@ use Rattle.rules.specs.declared.Refusal.the-variants.{
   TableCount,
   TableLength,
   Parent,
-  Unused,
+  Undefined,
   Unfit,
   Wait,
   Lengths,
@@ -58,7 +58,7 @@ use Rattle.rules.specs.declared.Verdict.the-variants as verdict
 use Rattle.rules.specs.declared.Rest.{Rest}
 use Rattle.rules.specs.declared.Rest.the-variants as rest
 
--- number, step and plan
+-- number, step and plan; unnamed places are 0
 abbrev pub placed : ℕ → ℕ → ℕ → Place
 placed number step plan = record { number = number; step = step; plan = plan }
 
@@ -69,18 +69,18 @@ place TableVersion = placed 3 0 0
 place TableCount = placed 4 0 0
 place TableLength = placed 5 0 0
 place (Parent p) = placed 6 0 p
-place (Unused p) = placed 7 0 p
+place (Undefined p) = placed 7 0 p
 place (Unfit p) = placed 8 0 p
 place (Wait p) = placed 9 0 p
 place Lengths = placed 10 0 0
 place (State p) = placed 11 0 p
-place (Word k p) = placed 12 k p
+place (Word i p) = placed 12 i p
 place RecordHeader = placed 13 0 0
 place RecordLength = placed 14 0 0
-place (Unexplained k p) = placed 15 k p
+place (Unexplained i p) = placed 15 i p
 place InputLong = placed 16 0 0
 
--- one check, and after it the next
+-- one check, and if it finds nothing the next
 infixr 10 _andThen_
 abbrev pub _andThen_ : Outcome → Outcome → Outcome
 Done andThen next = next
@@ -90,28 +90,29 @@ abbrev pub isDone : Outcome → Bool
 isDone Done = true
 isDone (Refused why) = false
 
--- refused if a test says so; at the plan that was found
+-- refused if a test says so
 abbrev pub refuseIf : Bool → Refusal → Outcome
 refuseIf b why = cond b (Refused why) Done
 
+-- refused at the plan that was found
 abbrev pub refuseAt : (ℕ → Refusal) → Found → Outcome
 refuseAt why Nowhere = Done
 refuseAt why (At p) = Refused (why p)
 
--- 1 to 4, of a table and, with another mark, 13 of a record
+-- 2, and a part of 13: the first three bytes are another mark
 abbrev pub wrongMark : List ℕ → List ℕ → Bool
 wrongMark mark s = not (same (take 3 s) mark)
 
 module _ (t : List ℕ) where
-  -- 6: plan 0's parent is 65535, any other's is the plan before it or an ancestor of that one; a plan has at most 64 children
-  unfoldable pub breaksParent : ℕ → Bool
+  -- 6: plan 0's parent is 65535, any other's is the plan before it or an ancestor of that one; rank 64 would be a 65th child's
+  unfoldable pub badParent : ℕ → Bool
   unfolding rank isOrIsAbove
-  breaksParent zero = not (eqb (parent t 0) noPlan)
-  breaksParent (suc k) = not (isOrIsAbove t (parent t (suc k)) k k) || leb 64 (rank t (suc k))
+  badParent zero = not (eqb (parent t 0) noPlan)
+  badParent (suc k) = not (isOrIsAbove t (parent t (suc k)) k k) || leb 64 (rank t (suc k))
 
-  -- 7: the body is at most 4; byte 3 has three bits, bytes 4 to 6 have six
-  unfoldable pub breaksBits : ℕ → Bool
-  breaksBits p =
+  -- 7: the body is above 4, or there is an unused bit: byte 3 has three bits, bytes 4 to 6 have six
+  unfoldable pub undefinedByte : ℕ → Bool
+  undefinedByte p =
       let e = entry t p in
       ltb 4 (e .body)
       || leb (2 ^ 3) (e .flags)
@@ -119,11 +120,11 @@ module _ (t : List ℕ) where
       || leb (2 ^ 6) (e .manual)
       || leb (2 ^ 6) (e .overridable)
 
-  -- 8: leaf exactly when there are no children; no manual or overridable bit of an absent condition; the root is not named; a leaf
-  -- has neither m nor flag bits 0 and 1
-  unfoldable pub breaksFit : ℕ → Bool
+  -- 8: body against children (leaf exactly when there are none); manual or overridable on an absent condition; root named; leaf with
+  -- m or flag bits 0, 1
+  unfoldable pub unfit : ℕ → Bool
   unfolding children
-  breaksFit p =
+  unfit p =
       let e = entry t p in
       let leaf : Bool = isLeaf (bodyOf e) in
       not (Bool·beq leaf (eqb (length (children t p)) 0))
@@ -131,105 +132,116 @@ module _ (t : List ℕ) where
       || eqb p 0 && named e
       || leaf && (not (eqb (e .wait) 0) || retryAborted e || waitForOptional e)
 
-  -- 9: m is at most the number of named children
-  unfoldable pub breaksWait : ℕ → Bool
+  -- 9: m is above the number of named children
+  unfoldable pub badWait : ℕ → Bool
   unfolding children
-  breaksWait p = ltb (count (λ c. named (entry t c)) (children t p)) (entry t p .wait)
+  badWait p = ltb (count (λ c. named (entry t c)) (children t p)) (entry t p .wait)
 
-  -- the header's checks, then the whole table's
+  -- 1 to 4
   unfoldable pub headerCheck : Outcome
   headerCheck =
       refuseIf (ltb (length t) 8) TableShort
       andThen refuseIf (wrongMark (text "APT") t) TableMark
       andThen refuseIf (not (eqb (version t) 1)) TableVersion
-      andThen refuseIf (ltb (plans t) 1 || ltb 256 (plans t) || not (eqb (byte t 7) 0)) TableCount
+      andThen refuseIf (ltb (planCount t) 1 || ltb 256 (planCount t) || not (eqb (byteAt t 7) 0)) TableCount
 
+  -- 1 to 9, one number over the whole table before the next
   unfoldable pub tableCheck : Outcome
-  unfolding headerCheck breaksParent breaksBits breaksFit breaksWait
+  unfolding headerCheck badParent undefinedByte unfit badWait
   tableCheck =
       headerCheck
-      andThen refuseIf (not (eqb (length t) (8 + 8 * plans t))) TableLength
-      andThen refuseAt Parent (least breaksParent (plans t))
-      andThen refuseAt Unused (least breaksBits (plans t))
-      andThen refuseAt Unfit (least breaksFit (plans t))
-      andThen refuseAt Wait (least breaksWait (plans t))
+      andThen refuseIf (not (eqb (length t) (8 + 8 * planCount t))) TableLength
+      andThen refuseAt Parent (least badParent (planCount t))
+      andThen refuseAt Undefined (least undefinedByte (planCount t))
+      andThen refuseAt Unfit (least unfit (planCount t))
+      andThen refuseAt Wait (least badWait (planCount t))
 
-  -- a good table answers its number of plans
-  abbrev pub tableVerdict : Outcome → Verdict
-  tableVerdict Done = verdict.Accepted (plans t)
-  tableVerdict (Refused why) = verdict.Refused why
+  -- what reading a table answers: a good one its number of plans
+  tableBy : Outcome → Verdict
+  tableBy Done = verdict.Accepted (planCount t)
+  tableBy (Refused why) = verdict.Refused why
 
-  -- 12: an unused bit, a wrong pick (in a record: any pick), or filter or setup satisfied but not satisfiable
-  unfoldable pub breaksWord : List ℕ → ℕ → Bool
+  unfoldable pub tableVerdict : Verdict
+  unfolding tableBy tableCheck
+  tableVerdict = tableBy tableCheck
+
+  -- 12: an unused bit, a wrong pick, or filter or setup satisfied but not satisfiable; in a record any pick is wrong
+  unfoldable pub badWord : List ℕ → ℕ → Bool
   unfolding children
-  breaksWord w p =
+  badWord w p =
       let x : ℕ = word w p in
-      unusedBits x || not (pickAllowed (bodyOf (entry t p)) (length (children t p)) (pickOf x)) || contradicts x
+      otherBits x || not (pickAllowed (bodyOf (entry t p)) (length (children t p)) (pickOf x)) || contradicts x
 
-  abbrev pub breaksRecordWord : List ℕ → ℕ → Bool
-  breaksRecordWord w p = let x : ℕ = word w p in unusedBits x || not (eqb (pickOf x) 0) || contradicts x
+  unfoldable pub badRecordWord : List ℕ → ℕ → Bool
+  badRecordWord w p = let x : ℕ = word w p in otherBits x || not (eqb (pickOf x) 0) || contradicts x
 
   -- A call of the step or the run: 1 to 9, 10, 11, 12.
   unfoldable pub callCheck : List ℕ → List ℕ → Outcome
-  unfolding tableCheck breaksState breaksWord
+  unfolding tableCheck badState badWord
   callCheck s w =
       tableCheck
-      andThen refuseIf (not (eqb (length s) (plans t)) || not (eqb (length w) (4 * plans t))) Lengths
-      andThen refuseAt State (least (breaksState t s) (plans t))
-      andThen refuseAt (Word 0) (least (breaksWord w) (plans t))
+      andThen refuseIf (not (eqb (length s) (planCount t)) || not (eqb (length w) (4 * planCount t))) Lengths
+      andThen refuseAt State (least (badState t s) (planCount t))
+      andThen refuseAt (Word 0) (least (badWord w) (planCount t))
 
-  -- no refusal changes lent bytes
-  abbrev pub statesAfterStep : List ℕ → List ℕ → Outcome → List ℕ
-  statesAfterStep s w Done = step t s w
-  statesAfterStep s w (Refused why) = s
+  -- what the step answers, and the states that it leaves: no refusal changes lent bytes
+  abbrev pub stepAnswer : List ℕ → List ℕ → Outcome
+  stepAnswer s w = callCheck s w
 
-  abbrev pub restAnswer : Found → Rest
-  restAnswer (At k) = rest.Rested k
-  restAnswer Nowhere = rest.Moving
+  abbrev pub stepStates : List ℕ → List ℕ → List ℕ
+  stepStates s w = elim (callCheck s w) [ Done ↦ step t s w | Refused why ↦ s ]
 
-  abbrev pub runAnswer : List ℕ → List ℕ → ℕ → Outcome → Rest
-  runAnswer s w budget Done = restAnswer (restAt t s w budget)
-  runAnswer s w budget (Refused why) = rest.Refused why
+  -- what the run answers, and the states that it leaves
+  restBy : Found → Rest
+  restBy (At k) = rest.Rested k
+  restBy Nowhere = rest.Moving
 
-  abbrev pub statesAfterRun : List ℕ → List ℕ → ℕ → Outcome → List ℕ
-  statesAfterRun s w budget Done = afterRest t s w budget (restAt t s w budget)
-  statesAfterRun s w budget (Refused why) = s
+  unfoldable pub runAnswer : List ℕ → List ℕ → ℕ → Rest
+  unfolding restBy callCheck leastRest
+  runAnswer s w budget = elim (callCheck s w) [ Done ↦ restBy (leastRest t s w budget) | Refused why ↦ rest.Refused why ]
+
+  unfoldable pub runStates : List ℕ → List ℕ → ℕ → List ℕ
+  unfolding callCheck leastRest
+  runStates s w budget = elim (callCheck s w) [ Done ↦ statesAt t s w budget (leastRest t s w budget) | Refused why ↦ s ]
 
 -- The checker: 1 to 9, 13, 14, then step by step 12 before 15.
 module _ (t r : List ℕ) where
-  -- 13: under 8 bytes, another mark, another version, another n, or byte 7 not 0
+  -- 13: under 8 bytes, another mark, version or n, or byte 7 not 0
   abbrev pub wrongHeader : Bool
   wrongHeader =
       ltb (length r) 8
       || wrongMark (text "APR") r
       || not (eqb (version r) 1)
-      || not (eqb (plans r) (plans t))
-      || not (eqb (byte r 7) 0)
+      || not (eqb (planCount r) (planCount t))
+      || not (eqb (byteAt r 7) 0)
 
   unfoldable pub recordCheck : Outcome
   unfolding tableCheck
   recordCheck =
       tableCheck t
       andThen refuseIf wrongHeader RecordHeader
-      andThen refuseIf (not (eqb ((length r - 8) % stepSize t r) 0) || ltb 65535 (steps t r)) RecordLength
+      andThen refuseIf (not (eqb ((length r - 8) % stepSize t r) 0) || ltb 65535 (stepCount t r)) RecordLength
 
+  -- 12 in step i
   unfoldable pub wordsCheck : ℕ → Outcome
-  wordsCheck k = refuseAt (Word (suc k)) (least (breaksRecordWord t (wordsOf t r k)) (plans t))
+  unfolding badRecordWord
+  wordsCheck i = refuseAt (Word (suc i)) (least (badRecordWord t (wordsOf t r i)) (planCount t))
 
-  -- step k is in order: its words pass, and some picks explain all its states
-  pub record InOrder (k : ℕ) : Type 0 where
-    pub words : wordsCheck k ≡ Done
-    pub states : ExplainedBelow t r k (plans t)
+  -- step i passes: its words do, and some picks explain all its states
+  pub record StepPasses (i : ℕ) : Type 0 where
+    pub words : wordsCheck i ≡ Done
+    pub states : ExplainedFirst t r i (planCount t)
 
-  -- the verdicts that are permitted: one for each record
+  -- the verdicts that are permitted
   pub data Judged : Verdict → Type 0 where
     malformed : {why : Refusal} → recordCheck ≡ Refused why → Judged (verdict.Refused why)
-    badWord :
-        {why : Refusal} (k : ℕ) → recordCheck ≡ Done → k < steps t r → ((j : ℕ) → j < k → InOrder j) → wordsCheck k ≡ Refused why
+    badWords :
+        {why : Refusal} (i : ℕ) → recordCheck ≡ Done → i < stepCount t r → ((j : ℕ) → j < i → StepPasses j)
+        → wordsCheck i ≡ Refused why
         → Judged (verdict.Refused why)
-    -- the lowest p such that no picks explain plans 0 to p
+    -- 15: p is the lowest plan such that no picks explain plans 0 to p
     unexplained :
-        (k p : ℕ) → recordCheck ≡ Done → k < steps t r → ((j : ℕ) → j < k → InOrder j) → wordsCheck k ≡ Done → p < plans t
-        → ((j : ℕ) → j < p → ExplainedBelow t r k (suc j)) → (ExplainedBelow t r k (suc p) → ⊥)
-        → Judged (verdict.Refused (Unexplained (suc k) p))
-    accepted : recordCheck ≡ Done → ((k : ℕ) → k < steps t r → InOrder k) → Judged (verdict.Accepted (steps t r))
+        (i p : ℕ) → recordCheck ≡ Done → i < stepCount t r → ((j : ℕ) → j < i → StepPasses j) → wordsCheck i ≡ Done
+        → p < planCount t → ((j : ℕ) → j < p → ExplainedFirst t r i (suc j)) → (ExplainedFirst t r i (suc p) → ⊥)
+        → Judged (verdict.Refused (Unexplained (suc i) p))
+    accepted : recordCheck ≡ Done → ((i : ℕ) → i < stepCount t r → StepPasses i) → Judged (verdict.Accepted (stepCount t r))

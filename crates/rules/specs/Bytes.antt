@@ -1,21 +1,21 @@
--- Numbers in bytes, little-endian, and the bits of a number. Assumes nothing.
+-- Numbers in bytes, little-endian, the bits of a number, and texts. Assumes nothing.
 use Prim.Native.Nat.{ℕ, _+_, _*_, _/_, _%_, _^_}
 use mathlib.Core.Bool.{Bool}
 use mathlib.Core.List.{List, [], _∷_}
-use Prim.Native.Char.{code}
-use Prim.Native.String.{String, [] as end, _∷_ as _◂_}
+use Prim.Native.Char.{code as charCode}
+use Prim.Native.String.{String, [] as none, _∷_ as _then_}
 use lib.ListN.{getD}
 use lib.Dec.{eqb}
 
 -- the byte, the 16-bit number and the 32-bit number at place i
-abbrev pub byte : List ℕ → ℕ → ℕ
-byte s i = getD s i 0
+abbrev pub byteAt : List ℕ → ℕ → ℕ
+byteAt s i = getD s i 0
 
-abbrev pub half : List ℕ → ℕ → ℕ
-half s i = byte s i + 256 * byte s (i + 1)
+abbrev pub u16At : List ℕ → ℕ → ℕ
+u16At s i = byteAt s i + 256 * byteAt s (i + 1)
 
-abbrev pub quad : List ℕ → ℕ → ℕ
-quad s i = half s i + 65536 * half s (i + 2)
+abbrev pub u32At : List ℕ → ℕ → ℕ
+u32At s i = u16At s i + 65536 * u16At s (i + 2)
 
 -- the number that `width` bits of x make, from bit k on
 abbrev pub bits : ℕ → ℕ → ℕ → ℕ
@@ -27,5 +27,5 @@ isSet k x = eqb (x / 2 ^ k % 2) 1
 
 -- a text as bytes
 abbrev pub text : String → List ℕ
-text end = []
-text (c ◂ cs) = code c ∷ text cs
+text none = []
+text (c then cs) = charCode c ∷ text cs

@@ -1,5 +1,6 @@
--- Document 01, 'Small protocols to try': the lines marked P, in their order, as rows of one table; then a few rows of our own. One
--- theorem says that all rows hold. A row of a step or a run goes through the whole call, checks 1 to 12 included. Assumes nothing.
+-- Document 01, 'Small protocols to try': the lines marked P, in their order, then some that are not, then a few rows of our own; one
+-- table, and one theorem that all its rows hold. A row of a step or a run goes through the whole call, checks 1 to 12 included.
+-- Assumes nothing.
 use Prim.Native.Nat.{ℕ, zero, suc, _+_, _*_, _/_, _%_, _^_}
 use Prim.Native.String.{String}
 use mathlib.Core.Bool.{Bool, true, false, _&&_}
@@ -10,41 +11,41 @@ use lib.Dec.{eqb}
 use Rattle.rules.specs.Lists.{same, leastFrom, highest}
 use Rattle.rules.specs.Bytes.{text}
 use Rattle.rules.specs.States.{stateAt}
-use Rattle.rules.specs.Table.{childrenBelow, children, rank, isOrIsAbove}
+use Rattle.rules.specs.Table.{childrenBefore, children, rank, isOrIsAbove}
 use Rattle.rules.specs.Words.{holds, satisfiable}
 use Rattle.rules.specs.Step.{
   tooManyLost,
-  mayComplete,
+  childrenComplete,
   firstNotDone,
   gateOpen,
   mayActivate,
   chosen,
   orders,
-  stepBelow,
+  stepFirst,
   stepBy,
   stepUnder,
   step,
 }
-use Rattle.rules.specs.HandedIn.{breaksState}
-use Rattle.rules.specs.Rest.{after, restAt}
+use Rattle.rules.specs.HandedIn.{badState}
+use Rattle.rules.specs.Rest.{after, leastRest}
 use Rattle.rules.specs.Answers.{
   place,
-  breaksParent,
-  breaksBits,
-  breaksFit,
-  breaksWait,
+  badParent,
+  undefinedByte,
+  unfit,
+  badWait,
   headerCheck,
   tableCheck,
   tableVerdict,
-  breaksWord,
+  badWord,
   callCheck,
-  statesAfterStep,
+  stepAnswer,
+  stepStates,
   runAnswer,
-  statesAfterRun,
+  runStates,
 }
 use Rattle.rules.specs.SubTree.{lastDescendant, subTree}
 use Rattle.rules.specs.Program.{decimalTo, line}
-use Rattle.rules.specs.declared.Place.{Place}
 use Rattle.rules.specs.declared.Refusal.the-variants.{Unexplained}
 use Rattle.rules.specs.declared.Outcome.{Outcome}
 use Rattle.rules.specs.declared.Outcome.the-variants.{Done, Refused}
@@ -66,7 +67,7 @@ T1 : List ℕ
 unfolding T1With
 T1 = T1With 0 0 2 0x20
 
--- a chain of three: an unordered root with retry-aborted, a sequential plan, a leaf
+-- a chain of three: an unordered root with retry-aborted and complete present, a sequential plan, a leaf
 chain : List ℕ
 chain =
     0x41 ∷ 0x50 ∷ 0x54 ∷ 0x01 ∷ 0x00 ∷ 0x03 ∷ 0x00 ∷ 0x00
@@ -87,7 +88,7 @@ star k =
     ∷ 0xFF ∷ 0xFF ∷ 0x04 ∷ 0x00 ∷ 0x00 ∷ 0x00 ∷ 0x00 ∷ 0x00
     ∷ leaves k
 
--- three states as document 01 writes them, and three words
+-- three states as document 01 writes them (000 is the number 0), and three words
 states : ℕ → List ℕ
 states n = n / 100 ∷ n / 10 % 10 ∷ n % 10 ∷ []
 
@@ -104,19 +105,19 @@ idle = words 0 0 0
 
 pub data Row : Type 0 where
   -- one step: table, states, words, new states
-  steps : List ℕ → ℕ → List ℕ → ℕ → Row
+  rowStep : List ℕ → ℕ → List ℕ → ℕ → Row
   -- a run from the states under a budget: rested after so many steps, with these states
-  rests : List ℕ → ℕ → ℕ → ℕ → ℕ → Row
+  rowRests : List ℕ → ℕ → ℕ → ℕ → ℕ → Row
   -- a run from the states under a budget: still moving, with these states
-  moves : List ℕ → ℕ → ℕ → ℕ → Row
+  rowMoves : List ℕ → ℕ → ℕ → ℕ → Row
   -- a table accepted with so many plans
-  accepts : List ℕ → ℕ → Row
+  rowAccepts : List ℕ → ℕ → Row
   -- a step refused: table, states, words, number, plan
-  refuses : List ℕ → ℕ → List ℕ → ℕ → ℕ → Row
+  rowRefuses : List ℕ → ℕ → List ℕ → ℕ → ℕ → Row
   -- the part of the states that is a plan's sub tree
-  shows : List ℕ → ℕ → ℕ → List ℕ → Row
+  rowShows : List ℕ → ℕ → ℕ → List ℕ → Row
   -- the program's line for a verdict on a table of so many plans
-  prints : ℕ → Verdict → String → Row
+  rowPrints : ℕ → Verdict → String → Row
 
 isRested : ℕ → Rest → Bool
 isRested k (rest.Rested j) = eqb j k
@@ -139,19 +140,15 @@ isRefused number plan (Refused why) =
 
 holdsIn : Row → Bool
 unfolding states words idle isRested isMoving isAccepted isRefused
-holdsIn (steps t from w to) = same (statesAfterStep t (states from) w (callCheck t (states from) w)) (states to)
-holdsIn (rests t from budget k to) =
-    let call : Outcome = callCheck t (states from) idle in
-    isRested k (runAnswer t (states from) idle budget call)
-    && same (statesAfterRun t (states from) idle budget call) (states to)
-holdsIn (moves t from budget to) =
-    let call : Outcome = callCheck t (states from) idle in
-    isMoving (runAnswer t (states from) idle budget call)
-    && same (statesAfterRun t (states from) idle budget call) (states to)
-holdsIn (accepts t n) = isAccepted n (tableVerdict t (tableCheck t))
-holdsIn (refuses t from w number plan) = isRefused number plan (callCheck t (states from) w)
-holdsIn (shows t from p part) = same (subTree t (states from) p) part
-holdsIn (prints n v told) = same (line n v) (text told)
+holdsIn (rowStep t from w to) = same (stepStates t (states from) w) (states to)
+holdsIn (rowRests t from budget k to) =
+    isRested k (runAnswer t (states from) idle budget) && same (runStates t (states from) idle budget) (states to)
+holdsIn (rowMoves t from budget to) =
+    isMoving (runAnswer t (states from) idle budget) && same (runStates t (states from) idle budget) (states to)
+holdsIn (rowAccepts t n) = isAccepted n (tableVerdict t)
+holdsIn (rowRefuses t from w number plan) = isRefused number plan (stepAnswer t (states from) w)
+holdsIn (rowShows t from p part) = same (subTree t (states from) p) part
+holdsIn (rowPrints n v told) = same (line n v) (text told)
 
 pub allHold : List Row → Bool
 unfolding holdsIn
@@ -159,75 +156,87 @@ allHold [] = true
 allHold (row ∷ rows) = holdsIn row && allHold rows
 
 -- the lines marked P
-pub marked : List Row
+marked : List Row
 unfolding T1 T1With words idle
 marked =
     -- T1 from 000: 100, 200, 300, 400, 411, 422, 433, 443
-    steps T1 000 idle 100
-    ∷ steps T1 100 idle 200
-    ∷ steps T1 200 idle 300
-    ∷ steps T1 300 idle 400
-    ∷ steps T1 400 idle 411
-    ∷ steps T1 411 idle 422
-    ∷ steps T1 422 idle 433
-    ∷ steps T1 433 idle 443
+    rowStep T1 000 idle 100
+    ∷ rowStep T1 100 idle 200
+    ∷ rowStep T1 200 idle 300
+    ∷ rowStep T1 300 idle 400
+    ∷ rowStep T1 400 idle 411
+    ∷ rowStep T1 411 idle 422
+    ∷ rowStep T1 422 idle 433
+    ∷ rowStep T1 433 idle 443
     -- 433 with pick 1: 434
-    ∷ steps T1 433 (words (2 ^ 24) 0 0) 434
+    ∷ rowStep T1 433 (words (2 ^ 24) 0 0) 434
     -- 443, complete (32) on plan 1: 463; then 464; 32 on plan 2: 466; then 666
-    ∷ steps T1 443 (words 0 32 0) 463
-    ∷ steps T1 463 idle 464
-    ∷ steps T1 464 (words 0 0 32) 466
-    ∷ steps T1 466 idle 666
+    ∷ rowStep T1 443 (words 0 32 0) 463
+    ∷ rowStep T1 463 idle 464
+    ∷ rowStep T1 464 (words 0 0 32) 466
+    ∷ rowStep T1 466 idle 666
     -- rest from 000: budget 8 gives 8 at 443; budget 7 still moving at 433
-    ∷ rests T1 000 8 8 443
-    ∷ moves T1 000 7 433
+    ∷ rowRests T1 000 8 8 443
+    ∷ rowMoves T1 000 7 433
     -- T1, 473: 778. With m 1: 474. With m 1 and retry: 413
-    ∷ steps T1 473 idle 778
-    ∷ steps (T1With 0 0 1 32) 473 idle 474
-    ∷ steps (T1With 1 0 1 32) 473 idle 413
+    ∷ rowStep T1 473 idle 778
+    ∷ rowStep (T1With 0 0 1 32) 473 idle 474
+    ∷ rowStep (T1With 1 0 1 32) 473 idle 413
     -- root with abort present, word 16, 443: 778
-    ∷ steps (T1With 0 16 2 32) 443 (words 16 0 0) 778
+    ∷ rowStep (T1With 0 16 2 32) 443 (words 16 0 0) 778
     -- root with suspend present, 443, word 4: 553, also with 32 on plan 1; then word 0: 443
-    ∷ steps (T1With 0 4 2 32) 443 (words 4 0 0) 553
-    ∷ steps (T1With 0 4 2 32) 443 (words 4 32 0) 553
-    ∷ steps (T1With 0 4 2 32) 553 idle 443
+    ∷ rowStep (T1With 0 4 2 32) 443 (words 4 0 0) 553
+    ∷ rowStep (T1With 0 4 2 32) 443 (words 4 32 0) 553
+    ∷ rowStep (T1With 0 4 2 32) 553 idle 443
     -- plan 1 with filter present, 411: word 0 gives 482, word 64 gives 412, word 65 gives 422
-    ∷ steps (T1With 0 0 2 33) 411 idle 482
-    ∷ steps (T1With 0 0 2 33) 411 (words 0 64 0) 412
-    ∷ steps (T1With 0 0 2 33) 411 (words 0 65 0) 422
+    ∷ rowStep (T1With 0 0 2 33) 411 idle 482
+    ∷ rowStep (T1With 0 0 2 33) 411 (words 0 64 0) 412
+    ∷ rowStep (T1With 0 0 2 33) 411 (words 0 65 0) 422
     ∷ []
 
--- rows of our own, beside the programs that run the lines not marked P
-pub ours : List Row
-unfolding T1 T1With chain star words idle
-ours =
-    -- two of the 'Errors a good programmer makes' that no line marked P refuses: a Suspended plan that completes, and old endings
-    -- kept below a retried plan
-    steps (T1With 0 4 2 32) 553 (words 0 32 0) 443
-    ∷ steps chain 476 idle 410
+-- lines that are not marked P, as far as no long table or record is needed; programs run them all
+unmarked : List Row
+unfolding T1 T1With star words idle
+unmarked =
     -- word 1 on plan 1: 12. Pick 2 on plan 0: 12. States 444: 11 at plan 2. T1 with m 3: 9 at plan 0. 31 bytes: 5. 257 plans: 4
-    ∷ refuses T1 000 (words 0 1 0) 12 1
-    ∷ refuses T1 000 (words (2 * 2 ^ 24) 0 0) 12 0
-    ∷ refuses T1 444 idle 11 2
-    ∷ refuses (T1With 0 0 3 32) 000 idle 9 0
-    ∷ refuses (take 31 T1) 000 idle 5 0
-    ∷ refuses (take 5 T1 ++ 1 ∷ 1 ∷ drop 7 T1) 000 idle 4 0
+    rowRefuses T1 000 (words 0 1 0) 12 1
+    ∷ rowRefuses T1 000 (words (2 * 2 ^ 24) 0 0) 12 0
+    ∷ rowRefuses T1 444 idle 11 2
+    ∷ rowRefuses (T1With 0 0 3 32) 000 idle 9 0
+    ∷ rowRefuses (take 31 T1) 000 idle 5 0
+    ∷ rowRefuses (take 5 T1 ++ 1 ∷ 1 ∷ drop 7 T1) 000 idle 4 0
     -- a 65th child: 6; 64 pass
-    ∷ refuses (star 65) 000 idle 6 65
-    ∷ accepts (star 64) 65
-    -- the sub tree of the root and of the middle of the chain
-    ∷ shows chain 476 0 (4 ∷ 7 ∷ 6 ∷ [])
-    ∷ shows chain 476 1 (7 ∷ 6 ∷ [])
-    ∷ shows chain 476 3 []
-    ∷ prints 3 (verdict.Accepted 8) "accepted 3 8\n"
-    ∷ prints 3 (verdict.Refused (Unexplained 8 2)) "refused 15 8 2\n"
-    ∷ prints 256 (verdict.Accepted 65535) "accepted 256 65535\n"
-    ∷ prints 1 (verdict.Accepted 0) "accepted 1 0\n"
+    ∷ rowRefuses (star 65) 000 idle 6 65
+    ∷ rowAccepts (star 64) 65
+    -- the words of two lines; that they are the right ones is the checker's matter
+    ∷ rowPrints 3 (verdict.Accepted 8) "accepted 3 8\n"
+    ∷ rowPrints 3 (verdict.Refused (Unexplained 8 2)) "refused 15 8 2\n"
     ∷ []
 
-pub rowsHold : allHold (marked ++ ours) ≡ true
+-- rows of our own
+ours : List Row
+unfolding T1 T1With chain words idle
+ours =
+    -- two of the 'Errors a good programmer makes' that no row above refuses: a Suspended plan that completes, and old endings kept
+    -- under a retried plan
+    rowStep (T1With 0 4 2 32) 553 (words 0 32 0) 443
+    ∷ rowStep chain 476 idle 410
+    -- sub trees: of a root, of the middle of the chain, of a leaf with a sibling after it, of no plan
+    ∷ rowShows chain 476 0 (4 ∷ 7 ∷ 6 ∷ [])
+    ∷ rowShows chain 476 1 (7 ∷ 6 ∷ [])
+    ∷ rowShows T1 443 1 (4 ∷ [])
+    ∷ rowShows chain 476 3 []
+    ∷ rowPrints 256 (verdict.Accepted 65535) "accepted 256 65535\n"
+    ∷ rowPrints 1 (verdict.Accepted 0) "accepted 1 0\n"
+    ∷ []
+
+pub table : List Row
+unfolding marked unmarked ours
+table = marked ++ unmarked ++ ours
+
+pub rowsHold : allHold table ≡ true
 unfolding
-    allHold marked ours leaves leastFrom highest stateAt childrenBelow children rank isOrIsAbove holds satisfiable tooManyLost mayComplete
-    firstNotDone gateOpen mayActivate chosen orders stepBelow stepBy stepUnder step breaksState after restAt breaksParent
-    breaksBits breaksFit breaksWait headerCheck tableCheck breaksWord callCheck lastDescendant subTree decimalTo
+    allHold table leaves leastFrom highest stateAt childrenBefore children rank isOrIsAbove holds satisfiable tooManyLost childrenComplete
+    firstNotDone gateOpen mayActivate chosen orders stepFirst stepBy stepUnder step badState after leastRest badParent
+    undefinedByte unfit badWait headerCheck tableCheck badWord callCheck tableVerdict runAnswer runStates lastDescendant subTree decimalTo
 rowsHold = refl

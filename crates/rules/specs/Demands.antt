@@ -1,4 +1,4 @@
--- Demand 3's last rules, as what is promised of the states s before a step of an accepted record and the states x after it. Assumes nothing.
+-- Demand 3's last rules, as what is promised of a step of an accepted record, s being the states before it and shown those after it. Assumes nothing.
 use Prim.Native.Nat.{ℕ, _<_}
 use mathlib.Core.Bool.{Bool, true, false}
 use mathlib.Core.Path.{_≡_}
@@ -6,7 +6,7 @@ use mathlib.Core.Logic.{_⊎_}
 use mathlib.Core.List.{List}
 use lib.Dec.{T}
 use Rattle.rules.specs.States.{stateAt, inExecution, ended}
-use Rattle.rules.specs.Table.{plans, entry, bodyOf, isChild, isOrIsAbove}
+use Rattle.rules.specs.Table.{planCount, entry, bodyOf, isChild, isOrIsAbove}
 use Rattle.rules.specs.declared.Body.{Body}
 use Rattle.rules.specs.declared.Body.the-variants.{Leaf, Sequential, Parallel, AnyOrder, Unordered}
 use Rattle.rules.specs.declared.PlanState.the-variants.{Considered, Activated, Aborted}
@@ -20,21 +20,21 @@ oneAtATime Unordered = false
 
 -- p is a sub plan of q
 pub record SubPlan (t : List ℕ) (q p : ℕ) : Type 0 where
-  pub below : p < plans t
+  pub within : p < planCount t
   pub child : T (isChild t q p)
 
 -- a is plan p or a plan above it, and was retried: it went from Aborted to Considered
-pub record Retried (t s x : List ℕ) (a p : ℕ) : Type 0 where
-  pub above : T (isOrIsAbove t a p p)
+pub record Retried (t s shown : List ℕ) (a p : ℕ) : Type 0 where
+  pub isOrAbove : T (isOrIsAbove t a p p)
   pub was : stateAt s a ≡ Aborted
-  pub now : stateAt x a ≡ Considered
+  pub now : stateAt shown a ≡ Considered
 
-pub record RulesKept (t s x : List ℕ) : Type 0 where
+pub record RulesKept (t s shown : List ℕ) : Type 0 where
   -- of the sub plans of a sequential or any-order plan at most one is in execution
   pub one :
-      (q c d : ℕ) → T (oneAtATime (bodyOf (entry t q))) → SubPlan t q c → SubPlan t q d → T (inExecution (stateAt x c))
-      → T (inExecution (stateAt x d)) → c ≡ d
+      (q c d : ℕ) → T (oneAtATime (bodyOf (entry t q))) → SubPlan t q c → SubPlan t q d → T (inExecution (stateAt shown c))
+      → T (inExecution (stateAt shown d)) → c ≡ d
   -- a sub plan is activated only while its parent is
-  pub under : (q c : ℕ) → SubPlan t q c → stateAt x c ≡ Activated → stateAt x q ≡ Activated
+  pub under : (q c : ℕ) → SubPlan t q c → stateAt shown c ≡ Activated → stateAt shown q ≡ Activated
   -- an ended plan keeps its ending unless it, or a plan above it, was retried
-  pub kept : (p : ℕ) → p < plans t → T (ended (stateAt s p)) → (stateAt x p ≡ stateAt s p) ⊎ ((a : ℕ) × Retried t s x a p)
+  pub kept : (p : ℕ) → p < planCount t → T (ended (stateAt s p)) → (stateAt shown p ≡ stateAt s p) ⊎ ((a : ℕ) × Retried t s shown a p)

@@ -1,11 +1,11 @@
 -- Document 01, 'States that may be handed in'. Assumes nothing.
 use Prim.Native.Nat.{ℕ, zero, suc}
 use mathlib.Core.Bool.{Bool, true, false, not, _&&_, _||_}
-use mathlib.Core.List.{List, [], _∷_}
+use mathlib.Core.List.{List}
 use lib.Dec.{ltb}
 use Rattle.rules.specs.Lists.{some}
-use Rattle.rules.specs.Bytes.{byte}
-use Rattle.rules.specs.States.{isCode, stateAt, is, oneOf, inExecution}
+use Rattle.rules.specs.Bytes.{byteAt}
+use Rattle.rules.specs.States.{isCode, stateAt, is, inExecution, ended}
 use Rattle.rules.specs.Table.{parent, entry, bodyOf, retryAborted, children}
 use Rattle.rules.specs.Step.{done}
 use Rattle.rules.specs.declared.Body.{Body}
@@ -23,30 +23,30 @@ use Rattle.rules.specs.declared.PlanState.the-variants.{
   Rejected,
 }
 
--- the state of a child, after its parent's, may be so: below 0, 1, 2, 3 or 8 only Inactive; below 6 or 7 Inactive or ended; below
--- Suspended all but Activated
+-- the states that a child may have, its parent being in a given one: under 0, 1, 2, 3 or 8 Inactive; under 6 or 7 Inactive or ended;
+-- under Suspended all but Activated
 abbrev pub suits : PlanState → PlanState → Bool
-suits Inactive = is Inactive
-suits Considered = is Inactive
-suits Possible = is Inactive
-suits Ready = is Inactive
-suits Activated = λ x. true
-suits Suspended = λ x. not (is Activated x)
-suits Completed = oneOf (Inactive ∷ Completed ∷ Aborted ∷ Rejected ∷ [])
-suits Aborted = oneOf (Inactive ∷ Completed ∷ Aborted ∷ Rejected ∷ [])
-suits Rejected = is Inactive
+suits Inactive child = is Inactive child
+suits Considered child = is Inactive child
+suits Possible child = is Inactive child
+suits Ready child = is Inactive child
+suits Activated child = true
+suits Suspended child = not (is Activated child)
+suits Completed child = is Inactive child || ended child
+suits Aborted child = is Inactive child || ended child
+suits Rejected child = is Inactive child
 
 module _ (t s : List ℕ) where
   -- some child of q before p passes a test
   abbrev pub someBefore : ℕ → ℕ → (PlanState → Bool) → Bool
   someBefore q p f = some (λ c. ltb c p && f (stateAt s c)) (children t q)
 
-  -- child p of q breaks the rule of q's body together with a lower child: any-order, a second in execution; sequential, one that
-  -- is not Inactive after one that is not done
+  -- child p of q breaks the rule of q's body together with a lower child. Any-order: a second one in execution. Sequential: one that
+  -- is not Inactive, after one that is not done
   abbrev pub breaksBody : Body → ℕ → ℕ → Bool
   breaksBody Leaf q p = false
   breaksBody Sequential q p =
-      not (is Inactive (stateAt s p)) && someBefore q p (λ x. not (done (retryAborted (entry t q)) x))
+      not (is Inactive (stateAt s p)) && someBefore q p (λ state. not (done (retryAborted (entry t q)) state))
   breaksBody Parallel q p = false
   breaksBody AnyOrder q p = inExecution (stateAt s p) && someBefore q p inExecution
   breaksBody Unordered q p = false
@@ -56,6 +56,6 @@ module _ (t s : List ℕ) where
   breaksUnder q p = not (suits (stateAt s q) (stateAt s p)) || breaksBody (bodyOf (entry t q)) q p
 
   -- plan p breaks a rule together with lower plans
-  unfoldable pub breaksState : ℕ → Bool
-  breaksState zero = not (isCode (byte s 0))
-  breaksState (suc k) = not (isCode (byte s (suc k))) || breaksUnder (parent t (suc k)) (suc k)
+  unfoldable pub badState : ℕ → Bool
+  badState zero = not (isCode (byteAt s 0))
+  badState (suc k) = not (isCode (byteAt s (suc k))) || breaksUnder (parent t (suc k)) (suc k)

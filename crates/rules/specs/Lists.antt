@@ -1,4 +1,4 @@
--- The few general notions that the definitions use: tests over a list of plans, and the least number that passes a test. Assumes nothing.
+-- The few general notions that the definitions use: tests over a list of numbers, and the least number that passes a test. Assumes nothing.
 use Prim.Native.Nat.{ℕ, zero, suc, _+_}
 use mathlib.Core.Bool.{Bool, true, false, cond, _&&_, _||_}
 use mathlib.Core.List.{List, [], _∷_}
@@ -6,29 +6,29 @@ use lib.Dec.{eqb}
 use Rattle.rules.specs.declared.Found.{Found}
 use Rattle.rules.specs.declared.Found.the-variants.{Nowhere, At}
 
--- all plans of a list pass a test
+-- all numbers of a list pass a test
 abbrev pub all : (ℕ → Bool) → List ℕ → Bool
 all f [] = true
-all f (p ∷ ps) = f p && all f ps
+all f (k ∷ ks) = f k && all f ks
 
--- some plan of a list passes a test
+-- some number of a list passes a test
 abbrev pub some : (ℕ → Bool) → List ℕ → Bool
 some f [] = false
-some f (p ∷ ps) = f p || some f ps
+some f (k ∷ ks) = f k || some f ks
 
--- how many plans of a list pass a test
+-- how many numbers of a list pass a test
 abbrev pub count : (ℕ → Bool) → List ℕ → ℕ
 count f [] = 0
-count f (p ∷ ps) = cond (f p) 1 0 + count f ps
+count f (k ∷ ks) = cond (f k) 1 0 + count f ks
 
--- the number that no plan has
+-- the number that no plan has: plan 0's bytes give it as its parent, and a search for a plan gives it where there is none
 abbrev pub noPlan : ℕ
 noPlan = 65535
 
--- the first plan of a list that passes a test, or `noPlan`
+-- the first number of a list that passes a test, or `noPlan`
 abbrev pub first : (ℕ → Bool) → List ℕ → ℕ
 first f [] = noPlan
-first f (p ∷ ps) = cond (f p) p (first f ps)
+first f (k ∷ ks) = cond (f k) k (first f ks)
 
 -- two lists of bytes are the same
 abbrev pub same : List ℕ → List ℕ → Bool

@@ -1,44 +1,26 @@
 -- Document 01: the program `aprcheck`, from the bytes of its input to the bytes of its line. Assumes nothing.
 use Prim.Native.Nat.{ℕ, zero, suc, _+_, _*_, _/_, _%_, _<_, _≤_}
 use mathlib.Core.Bool.{cond, _&&_}
+use mathlib.Core.Path.{_≡_}
 use mathlib.Core.List.{List, [], _∷_, _++_}
 use lib.ListN.{length, take, drop}
 use lib.Dec.{leb, ltb}
 use Rattle.rules.specs.Bytes.{text}
-use Rattle.rules.specs.Table.{plans}
+use Rattle.rules.specs.Table.{planCount}
 use Rattle.rules.specs.Answers.{place, isDone, headerCheck, Judged}
 use Rattle.rules.specs.declared.Refusal.the-variants.{InputLong}
 use Rattle.rules.specs.declared.Verdict.{Verdict}
 use Rattle.rules.specs.declared.Verdict.the-variants.{Accepted, Refused}
 
--- the table is the first 8 + 8n bytes, or all bytes if there are fewer or if the first 8 are missing or refused; the record is the rest
-module _ (input : List ℕ) where
-  unfoldable pub tableLength : ℕ
-  unfolding headerCheck
-  tableLength =
-      let whole : ℕ = 8 + 8 * plans input in
-      cond (isDone (headerCheck input) && leb whole (length input)) whole (length input)
-
-  abbrev pub tableOf : List ℕ
-  tableOf = take tableLength input
-
-  abbrev pub recordOf : List ℕ
-  recordOf = drop tableLength input
-
-  -- the verdicts that are permitted on an input: 16 is looked for first
-  pub data Answered : Verdict → Type 0 where
-    tooLong : 65536 < length input → Answered (Refused InputLong)
-    judged : {v : Verdict} → length input ≤ 65536 → Judged tableOf recordOf v → Answered v
-
--- a number in decimal; `digits` bounds how many digits are looked for, and the number itself is enough
+-- a number in decimal, of at most `more` digits and one; the number itself is more than enough
 unfoldable pub decimalTo : ℕ → ℕ → List ℕ
 decimalTo zero x = (48 + x % 10) ∷ []
-decimalTo (suc digits) x = cond (ltb x 10) [] (decimalTo digits (x / 10)) ++ ((48 + x % 10) ∷ [])
+decimalTo (suc more) x = cond (ltb x 10) [] (decimalTo more (x / 10)) ++ ((48 + x % 10) ∷ [])
 
 abbrev pub decimal : ℕ → List ℕ
 decimal x = decimalTo x x
 
--- the line for a verdict, n being the plan count
+-- the line for a verdict on a table of n plans
 abbrev pub line : ℕ → Verdict → List ℕ
 line n (Accepted steps) = text "accepted " ++ decimal n ++ text " " ++ decimal steps ++ text "\n"
 line n (Refused why) =
@@ -49,3 +31,29 @@ line n (Refused why) =
     ++ text " "
     ++ decimal (place why .plan)
     ++ text "\n"
+
+module _ (input : List ℕ) where
+  -- the table is the first 8 + 8n bytes, or all bytes if there are fewer or if the first 8 are missing or refused
+  unfoldable pub tableLength : ℕ
+  unfolding headerCheck
+  tableLength =
+      let whole : ℕ = 8 + 8 * planCount input in
+      cond (isDone (headerCheck input) && leb whole (length input)) whole (length input)
+
+  abbrev pub tableOf : List ℕ
+  tableOf = take tableLength input
+
+  -- the record is the rest
+  abbrev pub recordOf : List ℕ
+  recordOf = drop tableLength input
+
+  -- the verdicts that are permitted on an input: 16 is looked for first
+  pub data Answered : Verdict → Type 0 where
+    tooLong : 65536 < length input → Answered (Refused InputLong)
+    judged : {v : Verdict} → length input ≤ 65536 → Judged tableOf recordOf v → Answered v
+
+  -- the line that is printed, n being the plan count
+  pub record Printed (out : List ℕ) : Type 0 where
+    pub verdict : Verdict
+    pub answered : Answered verdict
+    pub printed : out ≡ line (planCount input) verdict

@@ -5,38 +5,38 @@ use mathlib.Core.List.{List}
 use lib.ListN.{length, take, drop, replicate}
 use lib.Dec.{T}
 use Rattle.rules.specs.States.{code}
-use Rattle.rules.specs.Table.{plans, entry, bodyOf, children}
+use Rattle.rules.specs.Table.{planCount, entry, bodyOf, children}
 use Rattle.rules.specs.Words.{pickAllowed}
 use Rattle.rules.specs.Step.{stepUnder}
 use Rattle.rules.specs.declared.PlanState.the-variants.{Inactive}
 
--- Some picks that words may hold lead from the states s, under the words w, to the states x, as far as the plans below k go.
-pub record Explained (t s w x : List ℕ) (k : ℕ) : Type 0 where
+-- Some picks that words may hold lead from the states s, under the words w, to the states shown, as far as the first k plans go.
+pub record Explained (t s w shown : List ℕ) (k : ℕ) : Type 0 where
   pub pick : ℕ → ℕ
-  pub allowed : (q : ℕ) → q < plans t → T (pickAllowed (bodyOf (entry t q)) (length (children t q)) (pick q))
-  pub agrees : take k (stepUnder t s w pick) ≡ take k x
+  pub allowed : (q : ℕ) → q < planCount t → T (pickAllowed (bodyOf (entry t q)) (length (children t q)) (pick q))
+  pub agrees : take k (stepUnder t s w pick) ≡ take k shown
 
--- A record r under a table t. Its steps are counted from 0 here; an answer names step k as k + 1.
+-- A treatment record r under a table t. Its steps i are counted from 0 here; an answer names step i as i + 1.
 module _ (t r : List ℕ) where
   -- the bytes of a step: 4n of words and n of states
   abbrev pub stepSize : ℕ
-  stepSize = 5 * plans t
+  stepSize = 5 * planCount t
 
-  abbrev pub steps : ℕ
-  steps = (length r - 8) / stepSize
+  abbrev pub stepCount : ℕ
+  stepCount = (length r - 8) / stepSize
 
   -- each step is a part of the record that starts in its middle
   abbrev pub wordsOf : ℕ → List ℕ
-  wordsOf k = take (4 * plans t) (drop (8 + k * stepSize) r)
+  wordsOf i = take (4 * planCount t) (drop (8 + i * stepSize) r)
 
   abbrev pub statesOf : ℕ → List ℕ
-  statesOf k = take (plans t) (drop (8 + k * stepSize + 4 * plans t) r)
+  statesOf i = take (planCount t) (drop (8 + i * stepSize + 4 * planCount t) r)
 
-  -- the states before step k: all plans inactive before the first
+  -- the states before step i: the record starts with all plans inactive (demand 3)
   abbrev pub statesBefore : ℕ → List ℕ
-  statesBefore zero = replicate (plans t) (code Inactive)
-  statesBefore (suc k) = statesOf k
+  statesBefore zero = replicate (planCount t) (code Inactive)
+  statesBefore (suc i) = statesOf i
 
-  -- some picks explain the plans below p in step k
-  abbrev pub ExplainedBelow : ℕ → ℕ → Type 0
-  ExplainedBelow k p = Explained t (statesBefore k) (wordsOf k) (statesOf k) p
+  -- some picks explain the first k plans in step i
+  abbrev pub ExplainedFirst : ℕ → ℕ → Type 0
+  ExplainedFirst i k = Explained t (statesBefore i) (wordsOf i) (statesOf i) k

@@ -1,4 +1,4 @@
--- Document 01, 'Rest': running under held words. Assumes nothing.
+-- Document 01, 'Rest': running under held words. The budget is a 16-bit number. Assumes nothing.
 use Prim.Native.Nat.{ℕ, zero, suc}
 use mathlib.Core.Bool.{Bool}
 use mathlib.Core.List.{List}
@@ -14,15 +14,15 @@ module _ (t s w : List ℕ) where
   after (suc k) = step t (after k) w
 
   -- after k steps one more changes nothing
-  abbrev pub atRest : ℕ → Bool
-  atRest k = same (step t (after k) w) (after k)
+  abbrev pub settled : ℕ → Bool
+  settled k = same (step t (after k) w) (after k)
 
   -- the least such k up to the budget, if there is one
-  unfoldable pub restAt : ℕ → Found
+  unfoldable pub leastRest : ℕ → Found
   unfolding after
-  restAt budget = least atRest (suc budget)
+  leastRest budget = least settled (suc budget)
 
   -- the states after that k, or after the whole budget
-  abbrev pub afterRest : ℕ → Found → List ℕ
-  afterRest budget (At k) = after k
-  afterRest budget Nowhere = after budget
+  abbrev pub statesAt : ℕ → Found → List ℕ
+  statesAt budget (At k) = after k
+  statesAt budget Nowhere = after budget

@@ -5,7 +5,7 @@ use mathlib.Core.Bool.{Bool, false, _||_}
 use mathlib.Core.List.{List, [], _∷_}
 use lib.ListN.{getD, length}
 use lib.Dec.{eqb, ltb}
-use Rattle.rules.specs.Bytes.{byte}
+use Rattle.rules.specs.Bytes.{byteAt}
 use Rattle.rules.specs.declared.PlanState.{PlanState}
 use Rattle.rules.specs.declared.PlanState.the-variants.{
   Inactive,
@@ -31,34 +31,35 @@ code Aborted = 7
 code Rejected = 8
 
 -- the states in the order of their codes
-abbrev pub inOrder : List PlanState
-inOrder = Inactive ∷ Considered ∷ Possible ∷ Ready ∷ Activated ∷ Suspended ∷ Completed ∷ Aborted ∷ Rejected ∷ []
+abbrev pub byCode : List PlanState
+byCode = Inactive ∷ Considered ∷ Possible ∷ Ready ∷ Activated ∷ Suspended ∷ Completed ∷ Aborted ∷ Rejected ∷ []
 
 -- a byte is the code of a state: 0 to 8
 abbrev pub isCode : ℕ → Bool
-isCode b = ltb b (length inOrder)
+isCode b = ltb b (length byCode)
 
 -- the state that a byte stands for; one that is no code counts as Rejected, and is refused before it is read
 abbrev pub stateOf : ℕ → PlanState
-stateOf b = getD inOrder b Rejected
+stateOf b = getD byCode b Rejected
 
 -- the state of plan p in a list of states, a byte a plan
 unfoldable pub stateAt : List ℕ → ℕ → PlanState
-stateAt s p = stateOf (byte s p)
+stateAt s p = stateOf (byteAt s p)
 
--- the state is one of a few
+-- a state is one of a few, and is the one
 abbrev pub oneOf : List PlanState → PlanState → Bool
-oneOf [] x = false
-oneOf (y ∷ ys) x = eqb (code x) (code y) || oneOf ys x
+oneOf [] state = false
+oneOf (y ∷ ys) state = eqb (code state) (code y) || oneOf ys state
 
 abbrev pub is : PlanState → PlanState → Bool
-is y x = oneOf (y ∷ []) x
+is y state = oneOf (y ∷ []) state
 
+-- the groups
 abbrev pub inSelection : PlanState → Bool
-inSelection x = oneOf (Considered ∷ Possible ∷ Ready ∷ []) x
+inSelection state = oneOf (Considered ∷ Possible ∷ Ready ∷ []) state
 
 abbrev pub inExecution : PlanState → Bool
-inExecution x = oneOf (Activated ∷ Suspended ∷ []) x
+inExecution state = oneOf (Activated ∷ Suspended ∷ []) state
 
 abbrev pub ended : PlanState → Bool
-ended x = oneOf (Completed ∷ Aborted ∷ Rejected ∷ []) x
+ended state = oneOf (Completed ∷ Aborted ∷ Rejected ∷ []) state

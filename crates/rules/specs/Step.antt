@@ -5,8 +5,8 @@ use mathlib.Core.List.{List, [], _∷_, _++_}
 use lib.ListN.{getD}
 use lib.Dec.{eqb}
 use Rattle.rules.specs.Lists.{all, some, first}
-use Rattle.rules.specs.States.{code, stateAt, oneOf, is, inExecution, ended}
-use Rattle.rules.specs.Table.{plans, parent, entry, bodyOf, retryAborted, waitForOptional, children, waitFor}
+use Rattle.rules.specs.States.{code, stateAt, oneOf, is, inSelection, inExecution, ended}
+use Rattle.rules.specs.Table.{planCount, parent, entry, bodyOf, retryAborted, waitForOptional, children, waitFor}
 use Rattle.rules.specs.Words.{word, pickOf, holds, satisfiable}
 use Rattle.rules.specs.declared.Body.{Body}
 use Rattle.rules.specs.declared.Body.the-variants.{Leaf, Sequential, Parallel, AnyOrder, Unordered}
@@ -26,77 +26,64 @@ use Rattle.rules.specs.declared.PlanState.the-variants.{
   Rejected,
 }
 
--- One move, by the parent's new state. It knows no tree: `o` is what the parent orders, `lost` says that too many children are
--- lost, and `complete` that the children let the plan complete.
+-- One move. It knows no tree: `parent` is the parent's new state and `o` what the parent orders; `e` and `x` are the plan's entry and
+-- word; `lost` says that too many children are lost, `mayComplete` that the children let the plan complete.
 
 -- under a parent in execution, by the plan's old state; `held` says that the parent is Suspended
 abbrev pub moveOn : Bool → Orders → PlanEntry → ℕ → Bool → Bool → PlanState → PlanState
-moveOn held o e x lost complete Inactive = cond (o .considers) Considered Inactive
-moveOn held o e x lost complete Considered =
+moveOn held o e x lost mayComplete Inactive = cond (o .considers) Considered Inactive
+moveOn held o e x lost mayComplete Considered =
     cond (holds Filter e x) Possible (cond (not (satisfiable Filter e x)) Rejected Considered)
-moveOn held o e x lost complete Possible =
+moveOn held o e x lost mayComplete Possible =
     cond (holds Setup e x) Ready (cond (not (satisfiable Setup e x)) Rejected Possible)
-moveOn held o e x lost complete Ready = cond (o .activates) Activated Ready
-moveOn held o e x lost complete Activated =
+moveOn held o e x lost mayComplete Ready = cond (o .activates) Activated Ready
+moveOn held o e x lost mayComplete Activated =
     cond (holds Abort e x || lost) Aborted
     (cond (held || holds Suspend e x) Suspended
-    (cond (holds Complete e x && complete) Completed Activated))
-moveOn held o e x lost complete Suspended =
+    (cond (holds Complete e x && mayComplete) Completed Activated))
+moveOn held o e x lost mayComplete Suspended =
     cond (holds Abort e x || lost) Aborted (cond (not held && holds Reactivate e x) Activated Suspended)
-moveOn held o e x lost complete Completed = Completed
-moveOn held o e x lost complete Aborted = cond (o .retries) Considered Aborted
-moveOn held o e x lost complete Rejected = Rejected
+moveOn held o e x lost mayComplete Completed = Completed
+moveOn held o e x lost mayComplete Aborted = cond (o .retries) Considered Aborted
+moveOn held o e x lost mayComplete Rejected = Rejected
 
 -- under an ended parent: selection becomes Rejected, execution Aborted, all else stays
 abbrev pub cutOff : PlanState → PlanState
-cutOff Inactive = Inactive
-cutOff Considered = Rejected
-cutOff Possible = Rejected
-cutOff Ready = Rejected
-cutOff Activated = Aborted
-cutOff Suspended = Aborted
-cutOff Completed = Completed
-cutOff Aborted = Aborted
-cutOff Rejected = Rejected
+cutOff old = cond (inSelection old) Rejected (cond (inExecution old) Aborted old)
 
+-- by the parent's new state: under Inactive or selection the child becomes Inactive
 abbrev pub move : PlanState → Orders → PlanEntry → ℕ → Bool → Bool → PlanState → PlanState
-move Inactive o e x lost complete old = Inactive
-move Considered o e x lost complete old = Inactive
-move Possible o e x lost complete old = Inactive
-move Ready o e x lost complete old = Inactive
-move Activated o e x lost complete old = moveOn false o e x lost complete old
-move Suspended o e x lost complete old = moveOn true o e x lost complete old
-move Completed o e x lost complete old = cutOff old
-move Aborted o e x lost complete old = cutOff old
-move Rejected o e x lost complete old = cutOff old
+move parent o e x lost mayComplete old =
+    cond (is Inactive parent || inSelection parent) Inactive
+    (cond (ended parent) (cutOff old) (moveOn (is Suspended parent) o e x lost mayComplete old))
 
 -- Orders.
 
 abbrev pub none : Orders
 none = record { considers = false; activates = false; retries = false }
 
--- what a body orders one child: `again` is its retry-aborted, `next` says that the child is the first not done, `gate` that the
--- parallel gate is open, `chosen` that the child is the one which any-order activates
+-- what a plan orders one child, by the plan's body: `again` is the plan's retry-aborted, `isNext` says that the child is the first
+-- not done, `gate` that the parallel gate is open, `isChosen` that any-order activates this child
 abbrev pub ordersOf : Body → Bool → Bool → Bool → Bool → Orders
-ordersOf Leaf again next gate chosen = none
-ordersOf Sequential again next gate chosen = record { considers = next; activates = next; retries = again && next }
-ordersOf Parallel again next gate chosen = record { considers = true; activates = gate; retries = again }
-ordersOf AnyOrder again next gate chosen = record { considers = true; activates = chosen; retries = again }
-ordersOf Unordered again next gate chosen = record { considers = true; activates = true; retries = again }
+ordersOf Leaf again isNext gate isChosen = none
+ordersOf Sequential again isNext gate isChosen = record { considers = isNext; activates = isNext; retries = again && isNext }
+ordersOf Parallel again isNext gate isChosen = record { considers = true; activates = gate; retries = again }
+ordersOf AnyOrder again isNext gate isChosen = record { considers = true; activates = isChosen; retries = again }
+ordersOf Unordered again isNext gate isChosen = record { considers = true; activates = true; retries = again }
 
--- a sequential plan, with or without retry-aborted, is done with a child
+-- a sequential plan is done with a child: Completed, Rejected, or Aborted without retry-aborted
 abbrev pub done : Bool → PlanState → Bool
-done again x = oneOf (Completed ∷ Rejected ∷ []) x || is Aborted x && not again
+done again state = oneOf (Completed ∷ Rejected ∷ []) state || is Aborted state && not again
 
 -- The children of a plan, by the old states s.
 module _ (t s : List ℕ) where
-  -- wait-for fails of the children that are neither Rejected nor Aborted
+  -- too many are lost: wait-for fails of the children that are neither Rejected nor Aborted
   unfoldable pub tooManyLost : ℕ → Bool
   tooManyLost p = not (waitFor t p (λ c. not (oneOf (Rejected ∷ Aborted ∷ []) (stateAt s c))))
 
   -- wait-for holds of the Completed children, and, with wait-for-optional, all children are ended
-  unfoldable pub mayComplete : ℕ → Bool
-  mayComplete p =
+  unfoldable pub childrenComplete : ℕ → Bool
+  childrenComplete p =
       waitFor t p (λ c. is Completed (stateAt s c))
       && (not (waitForOptional (entry t p)) || all (λ c. ended (stateAt s c)) (children t p))
 
@@ -116,46 +103,47 @@ module _ (t s : List ℕ) where
       not (some (λ c. inExecution (stateAt s c)) (children t q))
       && not (retryAborted (entry t q) && some (λ c. is Aborted (stateAt s c)) (children t q))
 
-  -- any-order: the Ready child whose rank is the pick, else the Ready child of lowest rank
+  -- any-order: the Ready child whose rank is the pick, else the Ready child of lowest rank; `noPlan` where no child is Ready.
+  -- A pick is a rank; what is chosen is a plan
   unfoldable pub chosen : (ℕ → ℕ) → ℕ → ℕ
   chosen pick q =
       let lowest : ℕ = first (λ c. is Ready (stateAt s c)) (children t q) in
       let picked : ℕ = getD (children t q) (pick q) lowest in
       cond (is Ready (stateAt s picked)) picked lowest
 
-  -- what plan q orders its child p to do, given which child it chooses if it is any-order
+  -- what plan q orders its child p to do; `choice` gives the plan that each any-order plan would activate
   unfoldable pub orders : (ℕ → ℕ) → ℕ → ℕ → Orders
   unfolding firstNotDone gateOpen mayActivate
   orders choice q p =
       ordersOf (bodyOf (entry t q)) (retryAborted (entry t q)) (eqb p (firstNotDone q)) (gateOpen q)
       (mayActivate q && eqb p (choice q))
 
--- One step, from the old states s under the words w, with the child that each any-order plan chooses.
+-- One step, from the old states s under the words w.
 module _ (t s w : List ℕ) (choice : ℕ → ℕ) where
-  -- plan p under a parent in a new state that orders so
+  -- plan p, given its parent's new state and orders
   abbrev pub moveOf : PlanState → Orders → ℕ → PlanState
-  moveOf is o p = move is o (entry t p) (word w p) (tooManyLost t s p) (mayComplete t s p) (stateAt s p)
+  moveOf parentNew o p = move parentNew o (entry t p) (word w p) (tooManyLost t s p) (childrenComplete t s p) (stateAt s p)
 
-  -- a parent orders only in a step where it was and stays Activated
+  -- a parent gives orders only in a step where it was and stays Activated
   abbrev pub ordersIf : PlanState → PlanState → ℕ → ℕ → Orders
-  ordersIf was now q p = cond (is Activated was && is Activated now) (orders t s choice q p) none
+  ordersIf parentOld parentNew q p = cond (is Activated parentOld && is Activated parentNew) (orders t s choice q p) none
 
-  -- the new state of plan p, once the plans below it have theirs: the parent's new state is read there, all else is old.
-  -- The root: as if under a parent that stays Activated, that considers it when Inactive and activates it when Ready
+  -- the new state of plan p, where `new` has those of the plans before it: its parent's state is read there, all else in s.
+  -- The root moves as if under a parent that stays Activated, that considers it when Inactive and activates it when Ready
   abbrev pub newState : List ℕ → ℕ → PlanState
   newState new zero = moveOf Activated (record { considers = true; activates = true; retries = false }) 0
   newState new (suc k) =
       let q : ℕ = parent t (suc k) in
       moveOf (stateAt new q) (ordersIf (stateAt s q) (stateAt new q) q (suc k)) (suc k)
 
-  -- the new states of the plans below k: plans move in table order
-  unfoldable pub stepBelow : ℕ → List ℕ
-  stepBelow zero = []
-  stepBelow (suc k) = let new : List ℕ = stepBelow k in new ++ (code (newState new k) ∷ [])
+  -- the new states of the first k plans: plans move in table order
+  unfoldable pub stepFirst : ℕ → List ℕ
+  stepFirst zero = []
+  stepFirst (suc k) = let new : List ℕ = stepFirst k in new ++ (code (newState new k) ∷ [])
 
   unfoldable pub stepBy : List ℕ
-  unfolding stepBelow
-  stepBy = stepBelow (plans t)
+  unfolding stepFirst
+  stepBy = stepFirst (planCount t)
 
 -- one step under picks, and under the picks of the words
 unfoldable pub stepUnder : List ℕ → List ℕ → List ℕ → (ℕ → ℕ) → List ℕ

@@ -5,7 +5,7 @@ use mathlib.Core.List.{List, [], _∷_, _++_}
 use lib.ListN.{getD, length}
 use lib.Dec.{eqb, leb}
 use Rattle.rules.specs.Lists.{count}
-use Rattle.rules.specs.Bytes.{byte, half, isSet}
+use Rattle.rules.specs.Bytes.{byteAt, u16At, isSet}
 use Rattle.rules.specs.declared.PlanEntry.{PlanEntry}
 use Rattle.rules.specs.declared.Body.{Body}
 use Rattle.rules.specs.declared.Body.the-variants.{Leaf, Sequential, Parallel, AnyOrder, Unordered}
@@ -14,23 +14,23 @@ use Rattle.rules.specs.declared.Condition.the-variants.{Filter, Setup, S
 
 -- the header: three bytes of mark, the version, the plan count n, a last byte
 abbrev pub version : List ℕ → ℕ
-version t = half t 3
+version t = u16At t 3
 
-abbrev pub plans : List ℕ → ℕ
-plans t = half t 5
+abbrev pub planCount : List ℕ → ℕ
+planCount t = u16At t 5
 
 -- the eight bytes of plan p
 abbrev pub entry : List ℕ → ℕ → PlanEntry
 entry t p =
     let at : ℕ = 8 + 8 * p in
     record {
-      parent = half t at;
-      body = byte t (at + 2);
-      flags = byte t (at + 3);
-      present = byte t (at + 4);
-      manual = byte t (at + 5);
-      overridable = byte t (at + 6);
-      wait = byte t (at + 7);
+      parent = u16At t at;
+      body = byteAt t (at + 2);
+      flags = byteAt t (at + 3);
+      present = byteAt t (at + 4);
+      manual = byteAt t (at + 5);
+      overridable = byteAt t (at + 6);
+      wait = byteAt t (at + 7);
     }
 
 -- byte 2: the body
@@ -66,7 +66,7 @@ bitOf Complete = 5
 abbrev pub conditions : List Condition
 conditions = Filter ∷ Setup ∷ Suspend ∷ Reactivate ∷ Abort ∷ Complete ∷ []
 
--- byte 7: the wait number is reached by k named children
+-- byte 7: k named children are at least m
 abbrev pub enough : PlanEntry → ℕ → Bool
 enough e k = leb (e .wait) k
 
@@ -79,25 +79,25 @@ module _ (t : List ℕ) where
   isChild q zero = false
   isChild q (suc p) = eqb (parent (suc p)) q
 
-  -- the children of q among the plans below k, in the order of their ranks
-  unfoldable pub childrenBelow : ℕ → ℕ → List ℕ
-  childrenBelow q zero = []
-  childrenBelow q (suc k) = childrenBelow q k ++ cond (isChild q k) (k ∷ []) []
+  -- the children of q among the first k plans, in the order of their ranks
+  unfoldable pub childrenBefore : ℕ → ℕ → List ℕ
+  childrenBefore q zero = []
+  childrenBefore q (suc k) = childrenBefore q k ++ cond (isChild q k) (k ∷ []) []
 
   unfoldable pub children : ℕ → List ℕ
-  unfolding childrenBelow
-  children q = childrenBelow q (plans t)
+  unfolding childrenBefore
+  children q = childrenBefore q (planCount t)
 
-  -- the rank of plan p among its siblings
+  -- the rank of plan p among its siblings, counted from 0
   unfoldable pub rank : ℕ → ℕ
-  unfolding childrenBelow
-  rank p = length (childrenBelow (parent p) p)
+  unfolding childrenBefore
+  rank p = length (childrenBefore (parent p) p)
 
-  -- a is plan p or an ancestor of it; k bounds how far up is looked, and p is far enough
+  -- a is plan p or an ancestor of it, looked for at most k plans up; from plan p, p plans up are enough
   unfoldable pub isOrIsAbove : ℕ → ℕ → ℕ → Bool
   isOrIsAbove a zero p = eqb a p
   isOrIsAbove a (suc k) p = eqb a p || not (eqb p 0) && isOrIsAbove a k (parent p)
 
-  -- wait-for of plan p holds of its children that pass a test
+  -- wait-for of plan p holds of its children that pass a test: at least m named children do
   abbrev pub waitFor : ℕ → (ℕ → Bool) → Bool
   waitFor p f = enough (entry t p) (count (λ c. named (entry t c) && f c) (children p))

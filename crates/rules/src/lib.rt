@@ -4,9 +4,9 @@ ghost use mathlib.Core.Path.{_≡_};
 ghost use Prim.Native.Nat.{_+_, _*_, _<_, _≤_};
 ghost use lib.Count.{ones};
 ghost use lib.ListN.{length};
-ghost use Rattle.rules.specs.Bytes.{isSet, half, quad};
+ghost use Rattle.rules.specs.Bytes.{isSet, u16At, u32At};
 ghost use Rattle.rules.specs.States.{code, stateOf, ended};
-ghost use Rattle.rules.specs.Table.{bitOf, entry, enough};
+ghost use Rattle.rules.specs.Table.{bitOf, entry, parent, named, enough};
 ghost use Rattle.rules.specs.Words.{word, absentHolds, presentHolds, holds, satisfiable};
 
 // The state of a plan.
@@ -194,6 +194,13 @@ impl PlanEntry {
         !is_set(self.present as u32, k) | is_set(word, 6 + k) | is_set(self.overridable as u32, k)
     }
 
+    // Whether the plan is named in its parent's wait-for.
+    pub fn is_named(self) -> bool
+        ensures { λ r. ⌜ r ≡ named self ⌝ }
+    {
+        is_set(self.flags as u32, 2)
+    }
+
     // Whether wait-for holds of a set of named children, a bit for each.
     pub fn wait_for(self, set: u64) -> bool
         ensures { λ r. ⌜ r ≡ enough self (ones set) ⌝ }
@@ -223,7 +230,7 @@ pub enum Refusal {
     TableCount,
     TableLength,
     Parent { plan: u16 },
-    Unused { plan: u16 },
+    Undefined { plan: u16 },
     Unfit { plan: u16 },
     Wait { plan: u16 },
     Lengths,
@@ -268,7 +275,7 @@ pub fn entry_at(table: &[u8], p: usize) -> PlanEntry
 {
     let at = 8 + 8 * p;
     PlanEntry {
-        parent: half_at(table, at),
+        parent: u16_at(table, at),
         body: table[at + 2],
         flags: table[at + 3],
         present: table[at + 4],
@@ -278,28 +285,36 @@ pub fn entry_at(table: &[u8], p: usize) -> PlanEntry
     }
 }
 
+// The number of plan p's parent, in a table that has plan p.
+pub fn parent_at(table: &[u8], p: usize) -> usize
+    requires { ⌜ 8 * p + 16 ≤ length (now table) ⌝ }
+    ensures { λ r. ⌜ r ≡ parent (now (table .entry)) p ⌝ }
+{
+    u16_at(table, 8 + 8 * p) as usize
+}
+
 // The input word of plan p among words that have one.
 pub fn word_at(words: &[u8], p: usize) -> u32
     requires { ⌜ 4 * p + 4 ≤ length (now words) ⌝ }
     ensures { λ r. ⌜ r ≡ word (now (words .entry)) p ⌝ }
 {
-    quad_at(words, 4 * p)
+    u32_at(words, 4 * p)
 }
 
 // The 16-bit number at a place of a slice.
-pub fn half_at(s: &[u8], i: usize) -> u16
+pub fn u16_at(s: &[u8], i: usize) -> u16
     requires { ⌜ i + 2 ≤ length (now s) ⌝ }
-    ensures { λ r. ⌜ r ≡ half (now (s .entry)) i ⌝ }
+    ensures { λ r. ⌜ r ≡ u16At (now (s .entry)) i ⌝ }
 {
     wide(s[i]) + 256 * wide(s[i + 1])
 }
 
 // The 32-bit number at a place of a slice.
-fn quad_at(s: &[u8], i: usize) -> u32
+fn u32_at(s: &[u8], i: usize) -> u32
     requires { ⌜ i + 4 ≤ length (now s) ⌝ }
-    ensures { λ r. ⌜ r ≡ quad (now (s .entry)) i ⌝ }
+    ensures { λ r. ⌜ r ≡ u32At (now (s .entry)) i ⌝ }
 {
-    half_at(s, i) as u32 + 65536 * (half_at(s, i + 2) as u32)
+    u16_at(s, i) as u32 + 65536 * (u16_at(s, i + 2) as u32)
 }
 
 // A byte as a wider number: named, so that a reader of it has its bound.

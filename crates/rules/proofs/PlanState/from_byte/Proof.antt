@@ -4,7 +4,7 @@ use Prim.Native.Nat.{ℕ, _+_, _≤_, zero-le}
 use mathlib.Core.Path.{_≡_, sym}
 use native.Mathlib.Omega.{arith}
 use lib.ListN.{List·getD-eq-default}
-use Rattle.rules.specs.States.{inOrder}
+use Rattle.rules.specs.States.{byCode}
 use Rattle.rules.specs.declared.PlanState.the-variants.{Rejected}
 use Rattle.rules.proofs.PlanState.from_byte.Statement.{statement}
 use Rattle.rules.proofs.PlanState.from_byte.Tie as tie
@@ -20,7 +20,7 @@ returns-10 c =
     let r₆ = r₃ .0 .0 .0 in
     let low : 3 ≤ b = three 0 b zero-le (r₆ .0 .0 .1) (r₆ .0 .1) (r₆ .1) in
     let more : 6 ≤ b = three 3 b low (r₃ .0 .0 .1) (r₃ .0 .1) (r₃ .1) in
-    sym (List·getD-eq-default inOrder Rejected (three 6 b more (r .0 .0 .1) (r .0 .1) (r .1)))
+    sym (List·getD-eq-default byCode Rejected (three 6 b more (r .0 .0 .1) (r .0 .1) (r .1)))
 
 pub from-byte-spec : {M : Type 1} → statement M
 from-byte-spec =
