@@ -1,5 +1,6 @@
 -- Laws of `least`: what one turn of a search for the least number tells, and what has been found. Assumes nothing.
 use Prim.Native.Nat.{ℕ, zero, suc, _+_, _-_, _≤_, _<_}
+use native.Mathlib.Decide.{ℕ-discrete}
 use native.Mathlib.Omega.{arith}
 use mathlib.Core.Path.{_≡_, refl}
 use mathlib.Core.Bool.{Bool, true, false}
@@ -25,3 +26,19 @@ module _ (f : ℕ → Bool) (p n : ℕ) where
   least-end h =
       let k : n - p ≡ 0 = omega arith in
       rw k
+
+-- where nothing was found, no number passes the test
+nowhere-from : (f : ℕ → Bool) (p k : ℕ) → leastFrom f p k ≡ Nowhere → (j : ℕ) → p ≤ j → j < p + k → f j ≡ false
+unfolding leastFrom
+nowhere-from f p zero h j l m = absurd (omega arith)
+nowhere-from f p (suc k) h j l m = go (f p) refl h (nowhere-from f (p + 1) k) (ℕ-discrete j p)
+  where
+    go :
+        (b : Bool) → f p ≡ b → elim b as (λ _. Found) [ true ↦ At p | false ↦ leastFrom f (p + 1) k ] ≡ Nowhere
+        → (leastFrom f (p + 1) k ≡ Nowhere → (i : ℕ) → p + 1 ≤ i → i < p + 1 + k → f i ≡ false) → Dec (j ≡ p) → f j ≡ false
+    go true e x ih d = let z : _≡_ {A = ℕ} 0 1 = cc in absurd (omega arith)
+    go false e x ih (yes y) = rw y e
+    go false e x ih (no y) = ih x j (omega arith) (omega arith)
+
+pub nowhere : (f : ℕ → Bool) (n : ℕ) → leastFrom f 0 n ≡ Nowhere → (j : ℕ) → j < n → f j ≡ false
+nowhere f n h j l = nowhere-from f 0 n h j (omega arith) (omega arith)

@@ -1,2 +1,4 @@
 -- Laws of the definitions, for the proofs of this crate and of those above it.
 pub mod Least
+pub mod Outcomes
+pub mod Tree

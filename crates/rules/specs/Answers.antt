@@ -82,7 +82,7 @@ place InputLong = placed 16 0 0
 
 -- one check, and if it finds nothing the next
 infixr 10 _andThen_
-abbrev pub _andThen_ : Outcome → Outcome → Outcome
+unfoldable pub _andThen_ : Outcome → Outcome → Outcome
 Done andThen next = next
 Refused why andThen next = Refused why
 
@@ -91,11 +91,11 @@ isDone Done = true
 isDone (Refused why) = false
 
 -- refused if a test says so
-abbrev pub refuseIf : Bool → Refusal → Outcome
+unfoldable pub refuseIf : Bool → Refusal → Outcome
 refuseIf b why = cond b (Refused why) Done
 
 -- refused at the plan that was found
-abbrev pub refuseAt : (ℕ → Refusal) → Found → Outcome
+unfoldable pub refuseAt : (ℕ → Refusal) → Found → Outcome
 refuseAt why Nowhere = Done
 refuseAt why (At p) = Refused (why p)
 

@@ -30,6 +30,9 @@ use Rattle.rules.specs.HandedIn.{badState}
 use Rattle.rules.specs.Rest.{after, leastRest}
 use Rattle.rules.specs.Answers.{
   place,
+  _andThen_,
+  refuseIf,
+  refuseAt,
   badParent,
   undefinedByte,
   unfit,
@@ -238,5 +241,5 @@ pub rowsHold : allHold table ≡ true
 unfolding
     allHold table leaves leastFrom highest stateAt childrenBefore children rank isOrIsAbove holds satisfiable tooManyLost childrenComplete
     firstNotDone gateOpen mayActivate chosen orders stepFirst stepBy stepUnder step badState after leastRest badParent
-    undefinedByte unfit badWait headerCheck tableCheck badWord callCheck tableVerdict runAnswer runStates lastDescendant subTree decimalTo
+    undefinedByte unfit badWait _andThen_ refuseIf refuseAt headerCheck tableCheck badWord callCheck tableVerdict runAnswer runStates lastDescendant subTree decimalTo
 rowsHold = refl
