@@ -4,9 +4,7 @@ use native.Mathlib.Decide.{ℕ-discrete}
 use native.Mathlib.Omega.{arith}
 use mathlib.Core.Path.{_≡_, refl}
 use mathlib.Core.Bool.{Bool, true, false}
-use Rattle.rules.specs.Lists.{leastFrom}
-use Rattle.rules.specs.declared.Found.{Found}
-use Rattle.rules.specs.declared.Found.the-variants.{Nowhere, At}
+use Rattle.rules.specs.Lists.{leastFrom, Found, Nowhere, At}
 
 module _ (f : ℕ → Bool) (p n : ℕ) where
   pub least-here : p < n → f p ≡ true → leastFrom f p (n - p) ≡ At p

@@ -1,11 +1,10 @@
--- Laws of outcomes: what a chain of checks that ends in Done tells of each. Assumes nothing.
+-- Laws of outcomes: what a chain of checks that ends in Done tells of each, and how a chain is gone through. Assumes nothing.
 use Prim.Native.Nat.{ℕ}
 use native.Mathlib.Omega.{arith}
 use mathlib.Core.Path.{_≡_, refl}
 use mathlib.Core.Bool.{Bool, true, false}
+use Rattle.rules.specs.Lists.{Found, Nowhere, At}
 use Rattle.rules.specs.Answers.{_andThen_, refuseIf, refuseAt}
-use Rattle.rules.specs.declared.Found.{Found}
-use Rattle.rules.specs.declared.Found.the-variants.{Nowhere, At}
 use Rattle.rules.specs.declared.Refusal.{Refusal}
 use Rattle.rules.specs.declared.Outcome.{Outcome}
 use Rattle.rules.specs.declared.Outcome.the-variants.{Done, Refused}
@@ -32,3 +31,46 @@ pub at-done : (why : ℕ → Refusal) (f : Found) → refuseAt why f ≡ Done �
 unfolding refuseAt
 at-done why Nowhere e = refl
 at-done why (At p) e = refused-not-done (why p) e
+
+-- a chain of checks goes on past a test that fails, and stops at one that holds
+module _ (b : Bool) (why : Refusal) (next : Outcome) where
+  pub pass : b ≡ false → (refuseIf b why andThen next) ≡ next
+  unfolding _andThen_ refuseIf
+  pass e = rw e
+
+  pub stop : b ≡ true → (refuseIf b why andThen next) ≡ Refused why
+  unfolding _andThen_ refuseIf
+  stop e = rw e
+
+pub pass-last : (b : Bool) (why : Refusal) → b ≡ false → refuseIf b why ≡ Done
+unfolding refuseIf
+pass-last b why e = rw e
+
+pub stop-last : (b : Bool) (why : Refusal) → b ≡ true → refuseIf b why ≡ Refused why
+unfolding refuseIf
+stop-last b why e = rw e
+
+module _ (why : ℕ → Refusal) (found : Found) (next : Outcome) where
+  pub pass-at : found ≡ Nowhere → (refuseAt why found andThen next) ≡ next
+  unfolding _andThen_ refuseAt
+  pass-at e = rw e
+
+  pub stop-at : (p : ℕ) → found ≡ At p → (refuseAt why found andThen next) ≡ Refused (why p)
+  unfolding _andThen_ refuseAt
+  stop-at p e = rw e
+
+pub pass-at-last : (why : ℕ → Refusal) (found : Found) → found ≡ Nowhere → refuseAt why found ≡ Done
+unfolding refuseAt
+pass-at-last why found e = rw e
+
+pub stop-at-last : (why : ℕ → Refusal) (found : Found) (p : ℕ) → found ≡ At p → refuseAt why found ≡ Refused (why p)
+unfolding refuseAt
+stop-at-last why found p e = rw e
+
+pub then-next : (a next : Outcome) → a ≡ Done → (a andThen next) ≡ next
+unfolding _andThen_
+then-next a next e = rw e
+
+pub then-stops : (a next : Outcome) (why : Refusal) → a ≡ Refused why → (a andThen next) ≡ Refused why
+unfolding _andThen_
+then-stops a next why e = rw e

@@ -10,8 +10,10 @@ use lib.Dec.{eqb, leb, ltb}
 use borrow.Author.Tests.{eqb-true, eqb-false, leb-false, ltb-false, not-false}
 use Rattle.rules.specs.Lists.{least}
 use Rattle.rules.specs.Table.{planCount, parent, childrenBefore, rank, isOrIsAbove}
-use Rattle.rules.specs.Answers.{badParent, undefinedByte, unfit, badWait, headerCheck, tableCheck}
-use Rattle.rules.specs.declared.Outcome.the-variants.{Done}
+use Rattle.rules.specs.Answers.{badParent, undefinedByte, unfit, badWait, headerCheck, tableCheck, tableVerdict}
+use Rattle.rules.specs.declared.Refusal.{Refusal}
+use Rattle.rules.specs.declared.Outcome.the-variants.{Done, Refused}
+use Rattle.rules.specs.declared.Verdict.the-variants as verdict
 use Rattle.rules.proofs.Least.{nowhere}
 use Rattle.rules.proofs.Outcomes.{first-done, then-done, if-done, at-done}
 
@@ -31,6 +33,15 @@ pub record Passes (t : List ℕ) : Type 0 where
   pub bytes : (p : ℕ) → p < planCount t → undefinedByte t p ≡ false
   pub fits : (p : ℕ) → p < planCount t → unfit t p ≡ false
   pub waits : (p : ℕ) → p < planCount t → badWait t p ≡ false
+
+-- what a table answers
+pub accepted : (t : List ℕ) → tableCheck t ≡ Done → tableVerdict t ≡ verdict.Accepted (planCount t)
+unfolding tableVerdict
+accepted t e = rw (e, tableVerdict)
+
+pub refused : (t : List ℕ) (why : Refusal) → tableCheck t ≡ Refused why → tableVerdict t ≡ verdict.Refused why
+unfolding tableVerdict
+refused t why e = rw (e, tableVerdict)
 
 -- what check 6 gives: each plan but the first has an earlier parent, and its rank is below 64
 pub record Tree (t : List ℕ) : Type 0 where
@@ -77,7 +88,7 @@ header t done =
 
 -- where the plans up to m have earlier parents, what is or is above one of them is no later
 module _ (t : List ℕ) (m : ℕ) (down : (k : ℕ) → 0 < k → k < m → parent t k < k) where
-  above-le : (a fuel k : ℕ) → k < m → isOrIsAbove t a fuel k ≡ true → a ≤ k
+  pub above-le : (a fuel k : ℕ) → k < m → isOrIsAbove t a fuel k ≡ true → a ≤ k
   unfolding isOrIsAbove
   above-le a zero k l h = omega (arith, eqb-true a k h)
   above-le a (suc fuel) k l h = go (eqb a k) refl (eqb k 0) refl h (above-le a fuel (parent t k))
@@ -94,21 +105,23 @@ module _ (t : List ℕ) (m : ℕ) (down : (k : ℕ) → 0 < k → k < m → pare
           pos : (i : ℕ) → (i ≡ 0 → ⊥) → 0 < i
           pos i n = omega arith
 
-  next-down : (k : ℕ) → k ≡ m → badParent t k ≡ false → 0 < k → parent t k < k
-  unfolding badParent
-  next-down zero e h l = absurd (omega arith)
-  next-down (suc k) e h l =
-      let above = not-false (isOrIsAbove t (parent t (suc k)) k k) (or-left _ (leb 64 (rank t (suc k))) h) in
-      omega (arith, above-le (parent t (suc k)) k k (omega arith) above)
+-- where each of the first m plans has the plan before it, or an ancestor of that one, as its parent, parents are earlier
+module _ (t : List ℕ) where
+  pub rule-down :
+      (m : ℕ) → ((k : ℕ) → suc k < m → isOrIsAbove t (parent t (suc k)) k k ≡ true) → (k : ℕ) → 0 < k → k < m → parent t k < k
+  rule-down zero rule k h l = absurd (omega arith)
+  rule-down (suc m) rule k h l = go k (rule-down m (λ j i. rule j (omega arith))) (ℕ-discrete k m) h l
+    where
+      go : (j : ℕ) → ((i : ℕ) → 0 < i → i < m → parent t i < i) → Dec (j ≡ m) → 0 < j → j < suc m → parent t j < j
+      go zero earlier d h i = absurd (omega arith)
+      go (suc j) earlier (yes e) h i =
+          omega (arith, above-le t m earlier (parent t (suc j)) j j (omega arith) (rule j (omega arith)))
+      go (suc j) earlier (no n) h i = earlier (suc j) h (omega arith)
 
 module _ (t : List ℕ) (parents : (p : ℕ) → p < planCount t → badParent t p ≡ false) where
-  down-to : (m : ℕ) → m ≤ planCount t → (k : ℕ) → 0 < k → k < m → parent t k < k
-  down-to zero l k h i = absurd (omega arith)
-  down-to (suc m) l k h i = go (down-to m (omega arith)) (ℕ-discrete k m)
-    where
-      go : ((j : ℕ) → 0 < j → j < m → parent t j < j) → Dec (k ≡ m) → parent t k < k
-      go ih (yes e) = next-down t m ih k e (parents k (omega arith)) h
-      go ih (no n) = ih k h (omega arith)
+  rule-at : (k : ℕ) → suc k < planCount t → isOrIsAbove t (parent t (suc k)) k k ≡ true
+  unfolding badParent
+  rule-at k l = not-false (isOrIsAbove t (parent t (suc k)) k k) (or-left _ (leb 64 (rank t (suc k))) (parents (suc k) l))
 
   narrow-at : (p : ℕ) → p < planCount t → rank t p < 64
   unfolding badParent rank childrenBefore
@@ -122,6 +135,6 @@ tree t passed =
     record {
       some = h .some;
       small = h .small;
-      down = down-to t (passed .parents) (planCount t) (omega arith);
+      down = rule-down t (planCount t) (rule-at t (passed .parents));
       narrow = narrow-at t (passed .parents);
     }

@@ -6,7 +6,7 @@ use mathlib.Core.Path.{_≡_}
 use mathlib.Core.List.{List, map}
 use lib.ListN.{length, take}
 use lib.Dec.{eqb, leb, ltb}
-use Rattle.rules.specs.Lists.{some, count, same, noPlan, least}
+use Rattle.rules.specs.Lists.{some, count, same, noPlan, least, Found, Nowhere, At}
 use Rattle.rules.specs.Bytes.{byteAt, isSet, text}
 use Rattle.rules.specs.Table.{
   version,
@@ -29,8 +29,7 @@ use Rattle.rules.specs.Step.{step}
 use Rattle.rules.specs.HandedIn.{badState}
 use Rattle.rules.specs.Rest.{leastRest, statesAt}
 use Rattle.rules.specs.Record.{stepSize, stepCount, wordsOf, ExplainedFirst}
-use Rattle.rules.specs.declared.Found.{Found}
-use Rattle.rules.specs.declared.Found.the-variants.{Nowhere, At}
+use Rattle.rules.specs.declared.PlanEntry.{PlanEntry}
 use Rattle.rules.specs.declared.Place.{Place}
 use Rattle.rules.specs.declared.Refusal.{Refusal}
 use Rattle.rules.specs.declared.Refusal.the-variants.{
@@ -103,6 +102,29 @@ refuseAt why (At p) = Refused (why p)
 abbrev pub wrongMark : List ℕ → List ℕ → Bool
 wrongMark mark s = not (same (take 3 s) mark)
 
+-- 7: the body is above 4, or there is an unused bit: byte 3 has three bits, bytes 4 to 6 have six
+unfoldable pub undefinedEntry : PlanEntry → Bool
+undefinedEntry e =
+    ltb 4 (e .body)
+    || leb (2 ^ 3) (e .flags)
+    || leb (2 ^ 6) (e .present)
+    || leb (2 ^ 6) (e .manual)
+    || leb (2 ^ 6) (e .overridable)
+
+-- a manual or overridable condition, at bit k, that is absent
+abbrev pub strayAt : PlanEntry → ℕ → Bool
+strayAt e k = (isSet k (e .manual) || isSet k (e .overridable)) && not (isSet k (e .present))
+
+-- 8, of plan p with so many children: body against children (leaf exactly when there are none); manual or overridable on an absent
+-- condition; root named; leaf with m or flag bits 0, 1
+unfoldable pub unfitEntry : ℕ → ℕ → PlanEntry → Bool
+unfitEntry p childCount e =
+    let leaf : Bool = isLeaf (bodyOf e) in
+    not (Bool·beq leaf (eqb childCount 0))
+    || some (strayAt e) (map bitOf conditions)
+    || eqb p 0 && named e
+    || leaf && (not (eqb (e .wait) 0) || retryAborted e || waitForOptional e)
+
 module _ (t : List ℕ) where
   -- 6: plan 0's parent is 65535, any other's is the plan before it or an ancestor of that one; rank 64 would be a 65th child's
   unfoldable pub badParent : ℕ → Bool
@@ -110,27 +132,15 @@ module _ (t : List ℕ) where
   badParent zero = not (eqb (parent t 0) noPlan)
   badParent (suc k) = not (isOrIsAbove t (parent t (suc k)) k k) || leb 64 (rank t (suc k))
 
-  -- 7: the body is above 4, or there is an unused bit: byte 3 has three bits, bytes 4 to 6 have six
+  -- 7
   unfoldable pub undefinedByte : ℕ → Bool
-  undefinedByte p =
-      let e = entry t p in
-      ltb 4 (e .body)
-      || leb (2 ^ 3) (e .flags)
-      || leb (2 ^ 6) (e .present)
-      || leb (2 ^ 6) (e .manual)
-      || leb (2 ^ 6) (e .overridable)
+  unfolding undefinedEntry
+  undefinedByte p = undefinedEntry (entry t p)
 
-  -- 8: body against children (leaf exactly when there are none); manual or overridable on an absent condition; root named; leaf with
-  -- m or flag bits 0, 1
+  -- 8
   unfoldable pub unfit : ℕ → Bool
-  unfolding children
-  unfit p =
-      let e = entry t p in
-      let leaf : Bool = isLeaf (bodyOf e) in
-      not (Bool·beq leaf (eqb (length (children t p)) 0))
-      || some (λ k. (isSet k (e .manual) || isSet k (e .overridable)) && not (isSet k (e .present))) (map bitOf conditions)
-      || eqb p 0 && named e
-      || leaf && (not (eqb (e .wait) 0) || retryAborted e || waitForOptional e)
+  unfolding children unfitEntry
+  unfit p = unfitEntry p (length (children t p)) (entry t p)
 
   -- 9: m is above the number of named children
   unfoldable pub badWait : ℕ → Bool
@@ -157,13 +167,9 @@ module _ (t : List ℕ) where
       andThen refuseAt Wait (least badWait (planCount t))
 
   -- what reading a table answers: a good one its number of plans
-  tableBy : Outcome → Verdict
-  tableBy Done = verdict.Accepted (planCount t)
-  tableBy (Refused why) = verdict.Refused why
-
   unfoldable pub tableVerdict : Verdict
-  unfolding tableBy tableCheck
-  tableVerdict = tableBy tableCheck
+  unfolding tableCheck
+  tableVerdict = elim tableCheck [ Done ↦ verdict.Accepted (planCount t) | Refused why ↦ verdict.Refused why ]
 
   -- 12: an unused bit, a wrong pick, or filter or setup satisfied but not satisfiable; in a record any pick is wrong
   unfoldable pub badWord : List ℕ → ℕ → Bool
@@ -192,13 +198,13 @@ module _ (t : List ℕ) where
   stepStates s w = elim (callCheck s w) [ Done ↦ step t s w | Refused why ↦ s ]
 
   -- what the run answers, and the states that it leaves
-  restBy : Found → Rest
-  restBy (At k) = rest.Rested k
-  restBy Nowhere = rest.Moving
+  abbrev pub restAnswer : Found → Rest
+  restAnswer (At k) = rest.Rested k
+  restAnswer Nowhere = rest.Moving
 
   unfoldable pub runAnswer : List ℕ → List ℕ → ℕ → Rest
-  unfolding restBy callCheck leastRest
-  runAnswer s w budget = elim (callCheck s w) [ Done ↦ restBy (leastRest t s w budget) | Refused why ↦ rest.Refused why ]
+  unfolding callCheck leastRest
+  runAnswer s w budget = elim (callCheck s w) [ Done ↦ restAnswer (leastRest t s w budget) | Refused why ↦ rest.Refused why ]
 
   unfoldable pub runStates : List ℕ → List ℕ → ℕ → List ℕ
   unfolding callCheck leastRest

@@ -34,6 +34,8 @@ use Rattle.rules.specs.Answers.{
   refuseIf,
   refuseAt,
   badParent,
+  undefinedEntry,
+  unfitEntry,
   undefinedByte,
   unfit,
   badWait,
@@ -241,5 +243,5 @@ pub rowsHold : allHold table ≡ true
 unfolding
     allHold table leaves leastFrom highest stateAt childrenBefore children rank isOrIsAbove holds satisfiable tooManyLost childrenComplete
     firstNotDone gateOpen mayActivate chosen orders stepFirst stepBy stepUnder step badState after leastRest badParent
-    undefinedByte unfit badWait _andThen_ refuseIf refuseAt headerCheck tableCheck badWord callCheck tableVerdict runAnswer runStates lastDescendant subTree decimalTo
+    undefinedEntry unfitEntry undefinedByte unfit badWait _andThen_ refuseIf refuseAt headerCheck tableCheck badWord callCheck tableVerdict runAnswer runStates lastDescendant subTree decimalTo
 rowsHold = refl

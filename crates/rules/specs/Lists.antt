@@ -3,8 +3,6 @@ use Prim.Native.Nat.{ℕ, zero, suc, _+_}
 use mathlib.Core.Bool.{Bool, true, false, cond, _&&_, _||_}
 use mathlib.Core.List.{List, [], _∷_}
 use lib.Dec.{eqb}
-use Rattle.rules.specs.declared.Found.{Found}
-use Rattle.rules.specs.declared.Found.the-variants.{Nowhere, At}
 
 -- all numbers of a list pass a test
 abbrev pub all : (ℕ → Bool) → List ℕ → Bool
@@ -36,6 +34,11 @@ same [] [] = true
 same [] (y ∷ ys) = false
 same (x ∷ xs) [] = false
 same (x ∷ xs) (y ∷ ys) = eqb x y && same xs ys
+
+-- what a search for a number finds
+pub data Found : Type 0 where
+  Nowhere : Found
+  At : ℕ → Found
 
 -- the least of the k numbers from p on that passes a test
 unfoldable pub leastFrom : (ℕ → Bool) → ℕ → ℕ → Found

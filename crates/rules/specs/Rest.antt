@@ -2,10 +2,8 @@
 use Prim.Native.Nat.{ℕ, zero, suc}
 use mathlib.Core.Bool.{Bool}
 use mathlib.Core.List.{List}
-use Rattle.rules.specs.Lists.{same, least}
+use Rattle.rules.specs.Lists.{same, least, Found, Nowhere, At}
 use Rattle.rules.specs.Step.{step}
-use Rattle.rules.specs.declared.Found.{Found}
-use Rattle.rules.specs.declared.Found.the-variants.{Nowhere, At}
 
 module _ (t s w : List ℕ) where
   -- the states after k steps

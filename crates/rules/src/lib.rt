@@ -6,7 +6,7 @@ ghost use lib.Count.{ones};
 ghost use lib.ListN.{length};
 ghost use Rattle.rules.specs.Bytes.{isSet, u16At, u32At};
 ghost use Rattle.rules.specs.States.{code, stateOf, ended};
-ghost use Rattle.rules.specs.Table.{bitOf, entry, parent, named, enough};
+ghost use Rattle.rules.specs.Table.{bodyOf, isLeaf, retryAborted, waitForOptional, named, bitOf, entry, parent, enough};
 ghost use Rattle.rules.specs.Words.{word, absentHolds, presentHolds, holds, satisfiable};
 
 // The state of a plan.
@@ -103,6 +103,21 @@ pub enum Body {
     Unordered,
 }
 
+impl Body {
+    // Whether a plan with this body has no children.
+    pub fn is_leaf(self) -> bool
+        ensures { λ r. ⌜ r ≡ isLeaf self ⌝ }
+    {
+        match self {
+            Body::Leaf => true,
+            Body::Sequential => false,
+            Body::Parallel => false,
+            Body::AnyOrder => false,
+            Body::Unordered => false,
+        }
+    }
+}
+
 // A condition of a plan.
 pub enum Condition {
     Filter,
@@ -194,6 +209,34 @@ impl PlanEntry {
         !is_set(self.present as u32, k) | is_set(word, 6 + k) | is_set(self.overridable as u32, k)
     }
 
+    // The plan's body. A byte above 4 is none: check 7 refuses it, and here it counts as unordered.
+    pub fn body_kind(self) -> Body
+        ensures { λ r. ⌜ r ≡ bodyOf self ⌝ }
+    {
+        let b = self.body;
+        match b {
+            0 => Body::Leaf,
+            1 => Body::Sequential,
+            2 => Body::Parallel,
+            3 => Body::AnyOrder,
+            _ => Body::Unordered,
+        }
+    }
+
+    // Whether the plan retries its aborted children.
+    pub fn retries_aborted(self) -> bool
+        ensures { λ r. ⌜ r ≡ retryAborted self ⌝ }
+    {
+        is_set(self.flags as u32, 0)
+    }
+
+    // Whether the plan waits for its optional children too.
+    pub fn waits_for_optional(self) -> bool
+        ensures { λ r. ⌜ r ≡ waitForOptional self ⌝ }
+    {
+        is_set(self.flags as u32, 1)
+    }
+
     // Whether the plan is named in its parent's wait-for.
     pub fn is_named(self) -> bool
         ensures { λ r. ⌜ r ≡ named self ⌝ }
@@ -214,12 +257,6 @@ pub struct Orders {
     pub considers: bool,
     pub activates: bool,
     pub retries: bool,
-}
-
-// The least number that a search looks for.
-pub enum Found {
-    Nowhere,
-    At(usize),
 }
 
 // Why a call is refused: document 01's answer numbers, in their order.

@@ -1,0 +1,6 @@
+-- Laws for the proofs of this crate and of those above it.
+pub mod Lowest
+pub mod Climb
+pub mod Shape
+pub mod Rules
+pub mod Reading

@@ -1,0 +1,67 @@
+-- `plans_check` meets its contract: each search finds the lowest plan that breaks its rule. Assumes nothing.
+use mathlib.Core.Path.{_≡_, sym}
+use native.Mathlib.Omega.{arith}
+use borrow.Author.Needs.{needs}
+use denote.Ref.{now}
+use Rattle.rules.specs.Lists.{least, Nowhere}
+use Rattle.rules.specs.Table.{planCount}
+use Rattle.rules.specs.Answers.{undefinedByte, unfit}
+use Rattle.table.proofs.Reading.{found-at, found-none, plans-undefined, plans-unfit, plans-wait, plans-done}
+use Rattle.table.proofs.plans_check.Statement.{statement}
+use Rattle.table.proofs.plans_check.Tie as tie
+
+returns : tie.Need-returns
+returns c =
+    let start = c .before .before .before .before .before in
+    let t = now (start .args .table) in
+    sym (plans-undefined t _ (found-at t _ (start .pre .whole) _ _ (c .before .lowest-breaking .ensures) (c .if1 .taken)))
+
+-- check 7 has found nothing, and then check 8
+defined : (c : tie.Else1) → least (undefinedByte (now (c .before .before .before .before .before .args .table))) (planCount (now (c .before .before .before .before .before .args .table))) ≡ Nowhere
+defined c =
+    let start = c .before .before .before .before .before in
+    found-none (now (start .args .table)) _ (start .pre .whole) _ _ (c .before .lowest-breaking .ensures) (c .if1 .left)
+
+fit : (c : tie.Else2) → least (unfit (now (c .before .before .before .before .before .before .before .args .table))) (planCount (now (c .before .before .before .before .before .before .before .args .table))) ≡ Nowhere
+fit c =
+    let start = c .before .before .before .before .before .before .before in
+    found-none (now (start .args .table)) _ (start .pre .whole) _ _ (c .before .lowest-breaking2 .ensures) (c .if2 .left)
+
+returns-2 : tie.Need-returns-2
+returns-2 c =
+    let start = c .before .before .before .before .before .before .before in
+    let t = now (start .args .table) in
+    sym
+    (plans-unfit t (defined (c .before .before)) _
+    (found-at t _ (start .pre .whole) _ _ (c .before .lowest-breaking2 .ensures) (c .if2 .taken)))
+
+returns-3 : tie.Need-returns-3
+returns-3 c =
+    let start = c .before .before .before .before .before .before .before .before .before in
+    let t = now (start .args .table) in
+    sym
+    (plans-wait t (defined (c .before .before .before .before)) (fit (c .before .before)) _
+    (found-at t _ (start .pre .whole) _ _ (c .before .lowest-breaking3 .ensures) (c .if3 .taken)))
+
+returns-4 : tie.Need-returns-4
+returns-4 c =
+    let start = c .before .before .before .before .before .before .before .before .before in
+    let t = now (start .args .table) in
+    sym
+    (plans-done t (defined (c .before .before .before .before)) (fit (c .before .before))
+    (found-none t _ (start .pre .whole) _ _ (c .before .lowest-breaking3 .ensures) (c .if3 .left)))
+
+pub plans-check-spec : {M : Type 1} → statement M
+plans-check-spec =
+    tie.close
+    (tie.spec
+    (λ c κs. search needs)
+    (λ c. omega (arith, c .before .before .before .before .before .pre .small))
+    returns
+    (λ c κs. search needs)
+    (λ c. omega (arith, c .before .before .before .before .before .before .before .pre .small))
+    returns-2
+    (λ c κs. search needs)
+    (λ c. omega (arith, c .before .before .before .before .before .before .before .before .before .pre .small))
+    returns-3
+    returns-4)

@@ -1,0 +1,87 @@
+-- The rules of checks 6 to 9 one by one, and what is known of a table that passes. Assumes nothing.
+use Prim.Native.Nat.{ℕ, zero, suc, _+_, _*_, _≤_, _<_}
+use mathlib.Core.Path.{_≡_}
+use mathlib.Core.Bool.{Bool, not}
+use mathlib.Core.List.{List}
+use lib.ListN.{length, getD}
+use lib.Count.{ones}
+use lib.Dec.{eqb}
+use Rattle.rules.specs.Lists.{noPlan, least}
+use Rattle.rules.specs.Bytes.{byteAt}
+use Rattle.rules.specs.Table.{planCount, parent, entry, named, enough, children, rank, isOrIsAbove}
+use Rattle.rules.specs.Answers.{
+  _andThen_,
+  refuseAt,
+  badParent,
+  undefinedEntry,
+  unfitEntry,
+  undefinedByte,
+  unfit,
+  badWait,
+  tableCheck,
+}
+use Rattle.children.specs.Sets.{setOf, Rooted, Ranked, Narrow}
+use Rattle.table.specs.Lowest.{Lowest}
+use Rattle.rules.specs.declared.PlanEntry.{PlanEntry}
+use Rattle.rules.specs.declared.Refusal.the-variants as refusal
+use Rattle.rules.specs.declared.Outcome.{Outcome}
+use Rattle.rules.specs.declared.Outcome.the-variants.{Done}
+use Rattle.table.specs.declared.Rule.{Rule}
+use Rattle.table.specs.declared.Rule.the-variants.{Undefined, Unfit, Wait}
+
+-- the parent rule of check 6 is broken, whatever the number of siblings
+unfoldable pub unrooted : List ℕ → ℕ → Bool
+unrooted t zero = not (eqb (parent t 0) noPlan)
+unrooted t (suc k) = not (isOrIsAbove t (parent t (suc k)) k k)
+
+-- check 6 finds r: the lowest bad plan, or n, and then the first n plans have earlier parents, known ranks below 64, and known numbers of
+-- children
+pub record Shaped (t : List ℕ) (n : ℕ) (ranks counts : List ℕ) (r : ℕ) : Type 0 where
+  pub lowest : Lowest (badParent t) n r
+  pub rooted : n ≤ r → Rooted t n
+  pub ranked : n ≤ r → Ranked t n ranks counts
+  pub narrow : n ≤ r → Narrow t n ranks
+
+-- the rule of check 7, 8 or 9 is broken: by plan p with so many children, these names and this entry; by plan p of a table
+abbrev pub breaksEntry : Rule → ℕ → ℕ → ℕ → PlanEntry → Bool
+breaksEntry Undefined p childCount names e = undefinedEntry e
+breaksEntry Unfit p childCount names e = unfitEntry p childCount e
+breaksEntry Wait p childCount names e = not (enough e (ones names))
+
+abbrev pub breaking : Rule → List ℕ → ℕ → Bool
+breaking Undefined t p = undefinedByte t p
+breaking Unfit t p = unfit t p
+breaking Wait t p = badWait t p
+
+-- the n plans' numbers of children and words of named children
+pub record Known (t : List ℕ) (n : ℕ) (counts names : List ℕ) : Type 0 where
+  pub whole : n ≡ planCount t
+  pub small : n ≤ 256
+  pub room : 8 + 8 * n ≤ length t
+  pub counts-room : n ≤ length counts
+  pub names-room : n ≤ length names
+  pub counted : (q : ℕ) → q < n → byteAt counts q ≡ length (children t q)
+  pub collected : (q : ℕ) → q < n → getD names q 0 ≡ setOf t q (λ c. named (entry t c))
+
+-- checks 7 to 9
+unfoldable pub plansCheck : List ℕ → Outcome
+plansCheck t =
+    refuseAt refusal.Undefined (least (undefinedByte t) (planCount t))
+    andThen refuseAt refusal.Unfit (least (unfit t) (planCount t))
+    andThen refuseAt refusal.Wait (least (badWait t) (planCount t))
+
+-- what a table that passes gives to those above: its plans' parents, ranks, numbers of children and named children
+pub record Facts (t ranks counts names : List ℕ) : Type 0 where
+  pub some : 0 < planCount t
+  pub small : planCount t ≤ 256
+  pub long : length t ≡ 8 + 8 * planCount t
+  pub down : (p : ℕ) → 0 < p → p < planCount t → parent t p < p
+  pub narrow : (p : ℕ) → p < planCount t → rank t p < 64
+  pub ranked : (p : ℕ) → p < planCount t → byteAt ranks p ≡ rank t p
+  pub counted : (q : ℕ) → q < planCount t → byteAt counts q ≡ length (children t q)
+  pub collected : (q : ℕ) → q < planCount t → getD names q 0 ≡ setOf t q (λ c. named (entry t c))
+
+-- a table has been checked, with this outcome and these facts
+pub record Checked (t ranks counts names : List ℕ) (outcome : Outcome) : Type 0 where
+  pub is : outcome ≡ tableCheck t
+  pub facts : outcome ≡ Done → Facts t ranks counts names

@@ -1,0 +1,247 @@
+// Reads a plan table: checks 1 to 9 of document 01, what a good table gives to those above, and the sub tree question.
+// Every function that goes over the plans costs O(n) for n plans; `climbs_to` costs O(n) over a whole table. Assumes nothing.
+ghost use mathlib.Core.Path.{_≡_};
+ghost use mathlib.Core.List.{[], _∷_, map};
+ghost use Prim.Native.Nat.{ℕ, _+_, _*_, _<_, _≤_};
+ghost use lib.Dec.{leb};
+ghost use lib.ListN.{length, take};
+ghost use Rattle.rules.specs.Lists.{some, same};
+ghost use Rattle.rules.specs.Bytes.{byteAt};
+ghost use Rattle.rules.specs.Table.{planCount, bitOf, conditions, isOrIsAbove};
+ghost use Rattle.rules.specs.Answers.{undefinedEntry, strayAt, unfitEntry, headerCheck, tableVerdict};
+ghost use Rattle.rules.specs.SubTree.{subTree};
+ghost use Rattle.children.specs.Sets.{Rooted, Ranked};
+ghost use Rattle.table.specs.Lowest.{Lowest};
+ghost use Rattle.table.specs.Facts.{unrooted, Shaped, breaksEntry, breaking, Known, plansCheck, Checked};
+use children::collect_named;
+use children::rank_children;
+use rules::Condition;
+use rules::Outcome;
+use rules::PlanEntry;
+use rules::Refusal;
+use rules::Verdict;
+use rules::entry_at;
+use rules::is_set;
+use rules::parent_at;
+use rules::u16_at;
+
+// Whether a slice begins with `AP` and a third letter, the mark of a table or a record.
+pub fn has_mark(s: &[u8], letter: u8) -> bool
+    requires { ⌜ 3 ≤ length (now s) ⌝ }
+    ensures { λ r. ⌜ r ≡ same (take 3 (now (s .entry))) (65 ∷ 80 ∷ letter ∷ []) ⌝ }
+{
+    (s[0] == b'A') & (s[1] == b'P') & (s[2] == letter)
+}
+
+// Checks 1 to 4.
+pub fn header_check(table: &[u8]) -> Outcome
+    ensures { λ r. ⌜ r ≡ headerCheck (now (table .entry)) ⌝ }
+{
+    if table.len() < 8 {
+        return Outcome::Refused(Refusal::TableShort);
+    }
+    if !has_mark(table, b'T') {
+        return Outcome::Refused(Refusal::TableMark);
+    }
+    if u16_at(table, 3) != 1 {
+        return Outcome::Refused(Refusal::TableVersion);
+    }
+    let n = u16_at(table, 5);
+    if (n < 1) | (256 < n) | (table[7] != 0) {
+        return Outcome::Refused(Refusal::TableCount);
+    }
+    Outcome::Done
+}
+
+// Whether a is the plan `from` or an ancestor of it, where the plans up to `from` have earlier parents.
+fn climbs_to(table: &[u8], a: usize, from: usize) -> bool
+    requires { ⌜ Rooted (now table) (from + 1) ⌝ }
+    ensures { λ r. ⌜ r ≡ isOrIsAbove (now (table .entry)) a from from ⌝ }
+{
+    let mut p = from;
+    while a < p {
+        p = parent_at(table, p);
+    }
+    p == a
+}
+
+// The lowest plan that breaks the parent rule, or n.
+fn lowest_unrooted(table: &[u8], n: usize) -> usize
+    requires { ⌜ (0 < n) × (n ≤ 256) × (8 + 8 * n ≤ length (now table)) ⌝ }
+    ensures { λ r. ⌜ Lowest (unrooted (now (table .entry))) n r ⌝ }
+{
+    if parent_at(table, 0) != 65535 {
+        return 0;
+    }
+    let mut p = 1;
+    while p < n {
+        if !climbs_to(table, parent_at(table, p), p - 1) {
+            return p;
+        }
+        p += 1;
+    }
+    p
+}
+
+// The lowest plan whose rank would be a 65th child's, or n.
+fn lowest_crowded(ranks: &[u8], n: usize) -> usize
+    requires { ⌜ n ≤ length (now ranks) ⌝ }
+    ensures { λ r. ⌜ Lowest (λ p. leb 64 (byteAt (now (ranks .entry)) p)) n r ⌝ }
+{
+    let mut p = 0;
+    while p < n {
+        if 64 <= ranks[p] {
+            return p;
+        }
+        p += 1;
+    }
+    p
+}
+
+// Check 6: the lowest plan that breaks the parent rule or is a 65th child, or n. Where it is n, the ranks and the numbers of children
+// are found.
+fn lowest_bad_parent(table: &[u8], n: usize, ranks: &mut [u8], counts: &mut [u8]) -> usize
+    requires table { ⌜ (0 < n) × (n ≤ 256) × (8 + 8 * n ≤ length (now table)) ⌝ }
+    requires room { ⌜ (n ≤ length (now ranks)) × (n ≤ length (now counts)) ⌝ }
+    ensures { λ r. ⌜ Shaped (now (table .entry)) n (now (ranks .exit)) (now (counts .exit)) r ⌝ }
+{
+    let rooted = lowest_unrooted(table, n);
+    rank_children(table, rooted, ranks, counts);
+    lowest_crowded(ranks, rooted)
+}
+
+// The rules of checks 7, 8 and 9.
+pub enum Rule {
+    Undefined,
+    Unfit,
+    Wait,
+}
+
+// Check 7 of an entry.
+fn undefined_entry(e: PlanEntry) -> bool
+    ensures { λ r. ⌜ r ≡ undefinedEntry e ⌝ }
+{
+    (4 < e.body) | (8 <= e.flags) | (64 <= e.present) | (64 <= e.manual) | (64 <= e.overridable)
+}
+
+// Whether a condition is manual or overridable though the plan does not have it.
+fn stray_at(e: PlanEntry, c: Condition) -> bool
+    ensures { λ r. ⌜ r ≡ strayAt e (bitOf c) ⌝ }
+{
+    let k = c.bit();
+    (is_set(e.manual as u32, k) | is_set(e.overridable as u32, k)) & !is_set(e.present as u32, k)
+}
+
+// Whether any condition is so.
+fn stray(e: PlanEntry) -> bool
+    ensures { λ r. ⌜ r ≡ some (strayAt e) (map bitOf conditions) ⌝ }
+{
+    let before = stray_at(e, Condition::Filter) | stray_at(e, Condition::Setup);
+    let during = stray_at(e, Condition::Suspend) | stray_at(e, Condition::Reactivate);
+    let after = stray_at(e, Condition::Abort) | stray_at(e, Condition::Complete);
+    before | during | after
+}
+
+// Check 8 of plan p's entry, with its number of children.
+fn unfit_entry(p: usize, count: u8, e: PlanEntry) -> bool
+    ensures { λ r. ⌜ r ≡ unfitEntry p count e ⌝ }
+{
+    let leaf = e.body_kind().is_leaf();
+    let childless = count == 0;
+    let body = (leaf & !childless) | (!leaf & childless);
+    let root = (p == 0) & e.is_named();
+    let waits = leaf & ((e.wait != 0) | e.retries_aborted() | e.waits_for_optional());
+    body | stray(e) | root | waits
+}
+
+// Whether plan p breaks a rule, by its entry, its number of children and its named children.
+fn breaks(rule: Rule, p: usize, e: PlanEntry, count: u8, names: u64) -> bool
+    ensures { λ r. ⌜ r ≡ breaksEntry rule p count names e ⌝ }
+{
+    match rule {
+        Rule::Undefined => undefined_entry(e),
+        Rule::Unfit => unfit_entry(p, count, e),
+        Rule::Wait => !e.wait_for(names),
+    }
+}
+
+// The lowest plan that breaks a rule, or n.
+fn lowest_breaking(rule: Rule, table: &[u8], n: usize, counts: &[u8], names: &[u64]) -> usize
+    requires { ⌜ Known (now table) n (now counts) (now names) ⌝ }
+    ensures { λ r. ⌜ Lowest (breaking rule (now (table .entry))) n r ⌝ }
+{
+    let mut p = 0;
+    while p < n {
+        if breaks(rule, p, entry_at(table, p), counts[p], names[p]) {
+            return p;
+        }
+        p += 1;
+    }
+    p
+}
+
+// Checks 7 to 9.
+fn plans_check(table: &[u8], n: usize, counts: &[u8], names: &[u64]) -> Outcome
+    requires { ⌜ Known (now table) n (now counts) (now names) ⌝ }
+    ensures { λ r. ⌜ r ≡ plansCheck (now (table .entry)) ⌝ }
+{
+    let undefined = lowest_breaking(Rule::Undefined, table, n, counts, names);
+    if undefined < n {
+        return Outcome::Refused(Refusal::Undefined {
+            plan: undefined as u16,
+        });
+    }
+    let unfit = lowest_breaking(Rule::Unfit, table, n, counts, names);
+    if unfit < n {
+        return Outcome::Refused(Refusal::Unfit { plan: unfit as u16 });
+    }
+    let wait = lowest_breaking(Rule::Wait, table, n, counts, names);
+    if wait < n {
+        return Outcome::Refused(Refusal::Wait { plan: wait as u16 });
+    }
+    Outcome::Done
+}
+
+// Checks 5 to 9 of a table whose header passes.
+fn body_check(table: &[u8], ranks: &mut [u8], counts: &mut [u8], names: &mut [u64]) -> Outcome
+    requires header { ⌜ headerCheck (now table) ≡ Outcome.Done ⌝ }
+    requires room { ⌜ (256 ≤ length (now ranks)) × (256 ≤ length (now counts)) × (256 ≤ length (now names)) ⌝ }
+    ensures { λ r. ⌜ Checked (now (table .entry)) (now (ranks .exit)) (now (counts .exit)) (now (names .exit)) r ⌝ }
+{
+    let n = u16_at(table, 5) as usize;
+    if table.len() != 8 + 8 * n {
+        return Outcome::Refused(Refusal::TableLength);
+    }
+    let parent = lowest_bad_parent(table, n, ranks, counts);
+    if parent < n {
+        return Outcome::Refused(Refusal::Parent {
+            plan: parent as u16,
+        });
+    }
+    collect_named(table, n, ranks, names);
+    plans_check(table, n, counts, names)
+}
+
+// Checks 1 to 9. Of a good table the buffers then hold the plans' ranks, numbers of children and named children.
+pub fn read_table(table: &[u8], ranks: &mut [u8], counts: &mut [u8], names: &mut [u64]) -> Outcome
+    requires { ⌜ (256 ≤ length (now ranks)) × (256 ≤ length (now counts)) × (256 ≤ length (now names)) ⌝ }
+    ensures { λ r. ⌜ Checked (now (table .entry)) (now (ranks .exit)) (now (counts .exit)) (now (names .exit)) r ⌝ }
+{
+    match header_check(table) {
+        Outcome::Refused(why) => Outcome::Refused(why),
+        Outcome::Done => body_check(table, ranks, counts, names),
+    }
+}
+
+// What document 01 says of a table: accepted with its number of plans, or refused.
+pub fn check_table(table: &[u8]) -> Verdict
+    ensures { λ r. ⌜ r ≡ tableVerdict (now (table .entry)) ⌝ }
+{
+    let mut ranks = [0u8; 256];
+    let mut counts = [0u8; 256];
+    let mut names = [0u64; 256];
+    match read_table(table, &mut ranks, &mut counts, &mut names) {
+        Outcome::Refused(why) => Verdict::Refused(why),
+        Outcome::Done => Verdict::Accepted(u16_at(table, 5)),
+    }
+}
