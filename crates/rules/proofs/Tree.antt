@@ -12,6 +12,7 @@ use Rattle.rules.specs.Lists.{least}
 use Rattle.rules.specs.Table.{planCount, parent, childrenBefore, rank, isOrIsAbove}
 use Rattle.rules.specs.Answers.{badParent, undefinedByte, unfit, badWait, headerCheck, tableCheck, tableVerdict}
 use Rattle.rules.specs.declared.Refusal.{Refusal}
+use Rattle.rules.specs.declared.Outcome.{Outcome}
 use Rattle.rules.specs.declared.Outcome.the-variants.{Done, Refused}
 use Rattle.rules.specs.declared.Verdict.the-variants as verdict
 use Rattle.rules.proofs.Least.{nowhere}
@@ -42,6 +43,27 @@ accepted t e = rw (e, tableVerdict)
 pub refused : (t : List ℕ) (why : Refusal) → tableCheck t ≡ Refused why → tableVerdict t ≡ verdict.Refused why
 unfolding tableVerdict
 refused t why e = rw (e, tableVerdict)
+
+-- and what an answer tells
+pub was-done : (t : List ℕ) (n : ℕ) → tableVerdict t ≡ verdict.Accepted n → (tableCheck t ≡ Done) × (n ≡ planCount t)
+was-done t n e = go (tableCheck t) refl
+  where
+    go : (o : Outcome) → tableCheck t ≡ o → (tableCheck t ≡ Done) × (n ≡ planCount t)
+    go Done d = let same = sym e ∙ accepted t d in (d, cc)
+    go (Refused why) d =
+        let other = sym e ∙ refused t why d in
+        let z : _≡_ {A = ℕ} 0 1 = cc in
+        absurd (omega arith)
+
+pub was-refused : (t : List ℕ) (why : Refusal) → tableVerdict t ≡ verdict.Refused why → tableCheck t ≡ Refused why
+was-refused t why e = go (tableCheck t) refl
+  where
+    go : (o : Outcome) → tableCheck t ≡ o → tableCheck t ≡ Refused why
+    go Done d =
+        let other = sym e ∙ accepted t d in
+        let z : _≡_ {A = ℕ} 0 1 = cc in
+        absurd (omega arith)
+    go (Refused which) d = let same = sym e ∙ refused t which d in d ∙ cc
 
 -- what check 6 gives: each plan but the first has an earlier parent, and its rank is below 64
 pub record Tree (t : List ℕ) : Type 0 where
@@ -119,7 +141,7 @@ module _ (t : List ℕ) where
       go (suc j) earlier (no n) h i = earlier (suc j) h (omega arith)
 
 module _ (t : List ℕ) (parents : (p : ℕ) → p < planCount t → badParent t p ≡ false) where
-  rule-at : (k : ℕ) → suc k < planCount t → isOrIsAbove t (parent t (suc k)) k k ≡ true
+  pub rule-at : (k : ℕ) → suc k < planCount t → isOrIsAbove t (parent t (suc k)) k k ≡ true
   unfolding badParent
   rule-at k l = not-false (isOrIsAbove t (parent t (suc k)) k k) (or-left _ (leb 64 (rank t (suc k))) (parents (suc k) l))
 

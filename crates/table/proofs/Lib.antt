@@ -4,3 +4,5 @@ pub mod Climb
 pub mod Shape
 pub mod Rules
 pub mod Reading
+pub mod Descendants
+pub mod SubTrees

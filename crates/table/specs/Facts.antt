@@ -1,11 +1,11 @@
 -- The rules of checks 6 to 9 one by one, and what is known of a table that passes. Assumes nothing.
 use Prim.Native.Nat.{ℕ, zero, suc, _+_, _*_, _≤_, _<_}
 use mathlib.Core.Path.{_≡_}
-use mathlib.Core.Bool.{Bool, not}
+use mathlib.Core.Bool.{Bool, not, _&&_}
 use mathlib.Core.List.{List}
 use lib.ListN.{length, getD}
 use lib.Count.{ones}
-use lib.Dec.{eqb}
+use lib.Dec.{eqb, ltb}
 use Rattle.rules.specs.Lists.{noPlan, least}
 use Rattle.rules.specs.Bytes.{byteAt}
 use Rattle.rules.specs.Table.{planCount, parent, entry, named, enough, children, rank, isOrIsAbove}
@@ -85,3 +85,7 @@ pub record Facts (t ranks counts names : List ℕ) : Type 0 where
 pub record Checked (t ranks counts names : List ℕ) (outcome : Outcome) : Type 0 where
   pub is : outcome ≡ tableCheck t
   pub facts : outcome ≡ Done → Facts t ranks counts names
+
+-- plan i stands behind the given plan, and its parent before it
+abbrev pub outside : List ℕ → ℕ → ℕ → Bool
+outside t plan i = ltb plan i && ltb (parent t i) plan

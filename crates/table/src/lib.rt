@@ -8,11 +8,11 @@ ghost use lib.ListN.{length, take};
 ghost use Rattle.rules.specs.Lists.{some, same};
 ghost use Rattle.rules.specs.Bytes.{byteAt};
 ghost use Rattle.rules.specs.Table.{planCount, bitOf, conditions, isOrIsAbove};
-ghost use Rattle.rules.specs.Answers.{undefinedEntry, strayAt, unfitEntry, headerCheck, tableVerdict};
+ghost use Rattle.rules.specs.Answers.{undefinedEntry, strayAt, unfitEntry, headerCheck, tableCheck, tableVerdict};
 ghost use Rattle.rules.specs.SubTree.{subTree};
 ghost use Rattle.children.specs.Sets.{Rooted, Ranked};
 ghost use Rattle.table.specs.Lowest.{Lowest};
-ghost use Rattle.table.specs.Facts.{unrooted, Shaped, breaksEntry, breaking, Known, plansCheck, Checked};
+ghost use Rattle.table.specs.Facts.{unrooted, Shaped, breaksEntry, breaking, Known, plansCheck, Checked, outside};
 use children::collect_named;
 use children::rank_children;
 use rules::Condition;
@@ -243,5 +243,45 @@ pub fn check_table(table: &[u8]) -> Verdict
     match read_table(table, &mut ranks, &mut counts, &mut names) {
         Outcome::Refused(why) => Verdict::Refused(why),
         Outcome::Done => Verdict::Accepted(u16_at(table, 5)),
+    }
+}
+
+// The first plan after the sub tree of `plan`: the lowest one behind it whose parent stands before it, or n.
+fn end_of(table: &[u8], n: usize, plan: usize) -> usize
+    requires { ⌜ (plan < n) × (n ≤ 256) × (8 + 8 * n ≤ length (now table)) ⌝ }
+    ensures { λ r. ⌜ (plan < r) × Lowest (outside (now (table .entry)) plan) n r ⌝ }
+{
+    let mut i = plan + 1;
+    while i < n {
+        if parent_at(table, i) < plan {
+            return i;
+        }
+        i += 1;
+    }
+    i
+}
+
+// The part of the states that is a sub tree, of a table that passes.
+fn part<'a>(table: &[u8], n: usize, states: &'a [u8], plan: usize) -> &'a [u8]
+    requires { ⌜ (tableCheck (now table) ≡ Outcome.Done) × (n ≡ planCount (now table)) ⌝ }
+    ensures { λ r. ⌜ now r ≡ subTree (now (table .entry)) (now (states .entry)) plan ⌝ }
+{
+    if states.len() != n {
+        return &states[0..0];
+    }
+    if n <= plan {
+        return &states[0..0];
+    }
+    let e = end_of(table, n, plan);
+    &states[plan..e]
+}
+
+// The sub tree question: the caller's own states from the plan through its last descendant, or none of them.
+pub fn sub_tree<'a>(table: &[u8], states: &'a [u8], plan: usize) -> &'a [u8]
+    ensures { λ r. ⌜ now r ≡ subTree (now (table .entry)) (now (states .entry)) plan ⌝ }
+{
+    match check_table(table) {
+        Verdict::Refused(_) => &states[0..0],
+        Verdict::Accepted(n) => part(table, n as usize, states, plan),
     }
 }
