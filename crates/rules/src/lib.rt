@@ -7,6 +7,7 @@ ghost use lib.ListN.{length};
 ghost use Rattle.rules.specs.Bytes.{isSet, u16At, u32At};
 ghost use Rattle.rules.specs.States.{code, stateOf, ended};
 ghost use Rattle.rules.specs.Table.{bodyOf, isLeaf, retryAborted, waitForOptional, named, bitOf, entry, parent, enough};
+ghost use Rattle.rules.specs.Answers.{placed, place};
 ghost use Rattle.rules.specs.Words.{word, absentHolds, presentHolds, holds, satisfiable};
 
 // The state of a plan.
@@ -284,6 +285,40 @@ pub struct Place {
     pub number: u8,
     pub step: u16,
     pub plan: u16,
+}
+
+impl Place {
+    fn new(number: u8, step: u16, plan: u16) -> Place
+        ensures { λ r. ⌜ r ≡ placed number step plan ⌝ }
+    {
+        Place { number, step, plan }
+    }
+}
+
+impl Refusal {
+    // The number of the refusal and its place.
+    pub fn place(self) -> Place
+        ensures { λ r. ⌜ r ≡ place self ⌝ }
+    {
+        match self {
+            Refusal::TableShort => Place::new(1, 0, 0),
+            Refusal::TableMark => Place::new(2, 0, 0),
+            Refusal::TableVersion => Place::new(3, 0, 0),
+            Refusal::TableCount => Place::new(4, 0, 0),
+            Refusal::TableLength => Place::new(5, 0, 0),
+            Refusal::Parent { plan } => Place::new(6, 0, plan),
+            Refusal::Undefined { plan } => Place::new(7, 0, plan),
+            Refusal::Unfit { plan } => Place::new(8, 0, plan),
+            Refusal::Wait { plan } => Place::new(9, 0, plan),
+            Refusal::Lengths => Place::new(10, 0, 0),
+            Refusal::State { plan } => Place::new(11, 0, plan),
+            Refusal::Word { step, plan } => Place::new(12, step, plan),
+            Refusal::RecordHeader => Place::new(13, 0, 0),
+            Refusal::RecordLength => Place::new(14, 0, 0),
+            Refusal::Unexplained { step, plan } => Place::new(15, step, plan),
+            Refusal::InputLong => Place::new(16, 0, 0),
+        }
+    }
 }
 
 // What a check or a step answers.

@@ -1,0 +1,219 @@
+// Runs trials and prints each answer. Standard input has a line for each trial, its fields parted by single spaces:
+//   table TABLE                  checks a table
+//   subtree TABLE STATES PLAN    asks for a sub tree
+// with bytes in hexadecimal (see `bytes_of`) and numbers in decimal. A line that begins with `#` is printed as it is, and an empty one as well.
+// Assumes what `io` does of read and write, and that the input is at most 65,536 bytes.
+ghost use Prim.Native.Nat.{_≤_, _<_};
+ghost use lib.ListN.{length};
+ghost use Rattle.io.specs.Counts.{Counts};
+use libc::STDIN_FILENO;
+use libc::STDOUT_FILENO;
+use rules::Refusal;
+use rules::Verdict;
+
+fn main() {
+    let mut input = io::large_buffer();
+    let n = io::read_full(STDIN_FILENO, &mut input);
+    run_lines(&input[..n]);
+}
+
+// Each line in turn.
+fn run_lines(text: &[u8]) {
+    let mut at = 0;
+    while at < text.len() {
+        let end = stop_of(text, at, b'\n');
+        run_line(&text[at..end]);
+        at = end + 1;
+    }
+}
+
+// The place of the next such byte from `from` on, or the end.
+fn stop_of(text: &[u8], from: usize, stop: u8) -> usize
+    requires { ⌜ from ≤ length (now text) ⌝ }
+    ensures { λ r. ⌜ (from ≤ r) × (r ≤ length (now (text .entry))) ⌝ }
+{
+    let mut i = from;
+    while i < text.len() {
+        if text[i] == stop {
+            return i;
+        }
+        i += 1;
+    }
+    i
+}
+
+fn run_line(line: &[u8]) {
+    if line.len() == 0 {
+        end_line();
+        return;
+    }
+    match line[0] {
+        b'#' => {
+            io::write_all(STDOUT_FILENO, line);
+            end_line();
+        }
+        b't' => run_table(line),
+        b's' => run_sub_tree(line),
+        _ => {
+            io::write_all(STDOUT_FILENO, b"no such trial");
+            end_line();
+        }
+    }
+}
+
+fn end_line() {
+    io::write_all(STDOUT_FILENO, b"\n");
+}
+
+// Field k of a line, counted from 0, or nothing.
+fn field(line: &[u8], k: usize) -> &[u8] {
+    let mut at = 0;
+    let mut left = k;
+    while left > 0 {
+        let end = stop_of(line, at, b' ');
+        if end == line.len() {
+            return &line[0..0];
+        }
+        at = end + 1;
+        left -= 1;
+    }
+    let end = stop_of(line, at, b' ');
+    &line[at..end]
+}
+
+// The value of a hexadecimal digit, 0 for any other byte.
+fn digit(b: u8) -> u8
+    ensures { λ r. ⌜ r < 16 ⌝ }
+{
+    match b {
+        b'0'..=b'9' => b - b'0',
+        b'a'..=b'f' => b - b'a' + 10,
+        b'A'..=b'F' => b - b'A' + 10,
+        _ => 0,
+    }
+}
+
+// The bytes of a hexadecimal text, as far as there is room, and how many there are. Groups are parted by dots, and one that ends in
+// `*` and a number stands so many times.
+fn bytes_of(text: &[u8], out: &mut [u8]) -> usize
+    ensures { λ r. ⌜ Counts r (now (out .exit)) ⌝ }
+{
+    let mut n = 0;
+    let mut at = 0;
+    while at < text.len() {
+        let end = stop_of(text, at, b'.');
+        n = add_group(&text[at..end], out, n);
+        at = end + 1;
+    }
+    n
+}
+
+// Puts a group at place n, and answers the place behind it.
+fn add_group(group: &[u8], out: &mut [u8], n: usize) -> usize
+    requires { ⌜ n ≤ length (now out) ⌝ }
+    ensures { λ r. ⌜ r ≤ length (now (out .exit)) ⌝ }
+{
+    let star = stop_of(group, 0, b'*');
+    let times = times_of(group, star);
+    let mut k = n;
+    let mut i = 0;
+    while i < times {
+        k = add_bytes(&group[0..star], out, k);
+        i += 1;
+    }
+    k
+}
+
+fn times_of(group: &[u8], star: usize) -> usize
+    requires { ⌜ star ≤ length (now group) ⌝ }
+{
+    if star == group.len() {
+        return 1;
+    }
+    number_of(&group[star..])
+}
+
+// Puts bytes at place n, as far as there is room, and answers the place behind them.
+fn add_bytes(text: &[u8], out: &mut [u8], n: usize) -> usize
+    requires { ⌜ n ≤ length (now out) ⌝ }
+    ensures { λ r. ⌜ r ≤ length (now (out .exit)) ⌝ }
+{
+    let count = least(text.len() / 2, out.len() - n);
+    let mut i = 0;
+    while i < count {
+        out[n + i] = digit(text[2 * i]) * 16 + digit(text[2 * i + 1]);
+        i += 1;
+    }
+    n + count
+}
+
+fn least(a: usize, b: usize) -> usize
+    ensures { λ r. ⌜ (r ≤ a) × (r ≤ b) ⌝ }
+{
+    if a < b { a } else { b }
+}
+
+// The number that a decimal text says, at most 16 bits of it; a byte that is no digit counts as 0.
+fn number_of(text: &[u8]) -> usize
+    ensures { λ r. ⌜ r < 65536 ⌝ }
+{
+    let mut n: usize = 0;
+    let mut i = 0;
+    while i < text.len() {
+        n = (n * 10 + digit(text[i]) as usize) % 65536;
+        i += 1;
+    }
+    n
+}
+
+fn run_table(line: &[u8]) {
+    let mut space = io::buffer();
+    let n = bytes_of(field(line, 1), &mut space);
+    print_verdict(table::check_table(&space[..n]));
+}
+
+fn run_sub_tree(line: &[u8]) {
+    let mut space = io::buffer();
+    let n = bytes_of(field(line, 1), &mut space);
+    let mut states = io::buffer();
+    let m = bytes_of(field(line, 2), &mut states);
+    print_bytes(table::sub_tree(&space[..n], &states[..m], number_of(field(line, 3))));
+}
+
+fn print_bytes(s: &[u8]) {
+    let mut i = 0;
+    while i < s.len() {
+        io::print_hex(STDOUT_FILENO, wide(s[i]), 2);
+        i += 1;
+    }
+    end_line();
+}
+
+fn wide(x: u8) -> u64 {
+    x as u64
+}
+
+fn print_number(x: u64) {
+    io::write_all(STDOUT_FILENO, b" ");
+    io::print_decimal(STDOUT_FILENO, x);
+}
+
+fn print_verdict(v: Verdict) {
+    match v {
+        Verdict::Accepted(n) => {
+            io::write_all(STDOUT_FILENO, b"accepted");
+            print_number(n as u64);
+            end_line();
+        }
+        Verdict::Refused(why) => print_refusal(why),
+    }
+}
+
+fn print_refusal(why: Refusal) {
+    let place = why.place();
+    io::write_all(STDOUT_FILENO, b"refused");
+    print_number(place.number as u64);
+    print_number(place.step as u64);
+    print_number(place.plan as u64);
+    end_line();
+}
