@@ -1,3 +1,4 @@
 -- Laws of binary words and of children, for the proofs of this crate and of those above it.
 pub mod Bits
 pub mod Kin
+pub mod Sets

@@ -1,0 +1,163 @@
+-- Laws of the any-order choice: picks choose among the Ready children, and the witness chooses the child that is shown. This file
+-- alone opens `chosen` and `witness`. Assumes nothing.
+use Prim.Native.Nat.{ℕ, zero, suc, _<_, _≤_}
+use native.Mathlib.Omega.{arith}
+use native.Mathlib.Decide.{ℕ-discrete}
+use mathlib.Core.Bool.{Bool, cond, not, _&&_}
+use mathlib.Core.Path.{_≡_, refl, sym, _∙_}
+use mathlib.Core.Logic.{_⊎_, inl, inr}
+use mathlib.Core.List.{List, [], _∷_, List·Memᴰ, List·Memᴰ·head, List·Memᴰ·tail}
+use lib.ListN.{getD, length}
+use lib.Dec.{T, T-not, eqb, eqb→eq, eqb-refl, leb, leb→le, nleb→lt, lt→ltb}
+use borrow.Author.Tests.{ne-eqb}
+use Rattle.rules.specs.Lists.{some, first}
+use Rattle.rules.specs.States.{stateAt, is}
+use Rattle.rules.specs.Table.{entry, bodyOf, children, rank}
+use Rattle.rules.specs.Words.{pickAllowed}
+use Rattle.rules.specs.Step.{chosen}
+use Rattle.rules.specs.declared.Body.{Body}
+use Rattle.rules.specs.declared.Body.the-variants.{Leaf, Sequential, Parallel, AnyOrder, Unordered}
+use Rattle.rules.specs.declared.PlanState.the-variants.{Ready, Activated}
+use Rattle.demands.specs.Witness.{last, firstMarked, isAnyOrder, activatedChild, witness}
+use Rattle.demands.proofs.Tests.{both, left, right, decide, is-true, cond-by}
+use Rattle.demands.proofs.Lists.{Found, found-some, first-found, last-found, Sorted, first-le, last-ge}
+use Rattle.demands.proofs.Children.{member-child, sorted-children, rank-small, at-rank}
+
+-- what stands at a place of a list, or the default
+at-place : (ks : List ℕ) (i d : ℕ) → List·Memᴰ (getD ks i d) ks ⊎ (getD ks i d ≡ d)
+at-place [] i d = inr refl
+at-place (k ∷ ks) zero d = inl (List·Memᴰ·head refl)
+at-place (k ∷ ks) (suc i) d = go (at-place ks i d)
+  where
+    go : List·Memᴰ (getD ks i d) ks ⊎ (getD ks i d ≡ d) → List·Memᴰ (getD ks i d) (k ∷ ks) ⊎ (getD ks i d ≡ d)
+    go (inl m) = inl (List·Memᴰ·tail m)
+    go (inr e) = inr e
+
+-- Of the candidates, the first that is marked, else the last.
+module _ (candidate marked : ℕ → Bool) (ks : List ℕ) where
+  abbrev taken : ℕ → Bool
+  taken c = candidate c && marked c
+
+  abbrev target : ℕ
+  target = firstMarked candidate marked ks
+
+  candidate-found : {c : ℕ} → Found taken ks c → Found candidate ks c
+  candidate-found {c} r = record { member = r .member; passes = left (candidate c) (marked c) (r .passes) }
+
+  target-found : T (some candidate ks) → Found candidate ks target
+  target-found h =
+      cond-by (Found candidate ks) (some taken ks) (λ m. candidate-found (first-found taken ks m))
+      (λ m. last-found candidate ks h)
+
+  -- Where, among the candidates up to p, exactly c is marked, p is the target exactly if it is c.
+  module _ (sorted : Sorted ks) (c p : ℕ) (at-c : Found candidate ks c)
+      (only-c : (r : ℕ) → Found candidate ks r → r ≤ p → marked r ≡ eqb r c) where
+    taken-is-c : (r : ℕ) → Found taken ks r → r ≤ p → r ≡ c
+    taken-is-c r f l = eqb→eq r c (rw (only-c r (candidate-found f) l) at (right (candidate r) (marked r) (f .passes)))
+
+    c-taken : c ≤ p → T (taken c)
+    c-taken l = both (candidate c) (marked c) (at-c .passes) (rw (only-c c at-c l) (eqb-refl c))
+
+    -- some candidate is marked: c is the first if it is up to p, and if the first is p it is c
+    first-up-to : T (some taken ks) → eqb p c ≡ eqb p (first taken ks)
+    first-up-to m = go (ℕ-discrete p c)
+      where
+        go : Dec (p ≡ c) → eqb p c ≡ eqb p (first taken ks)
+        go (yes e) =
+            let low = first-le taken c ks sorted (at-c .member) (c-taken (omega arith)) in
+            rw (taken-is-c (first taken ks) (first-found taken ks m) (omega arith))
+        go (no n) =
+            let not-first : p ≡ first taken ks → ⊥ =
+            (λ e. n (taken-is-c p (rw (← e) at (first-found taken ks m)) (omega arith))) in
+            ne-eqb p c n ∙ sym (ne-eqb p (first taken ks) not-first)
+
+    -- none is: c is higher than p, and so is the last candidate
+    none-up-to : T (not (some taken ks)) → p < c
+    none-up-to m = go (decide (leb c p))
+      where
+        go : T (leb c p) ⊎ T (not (leb c p)) → p < c
+        go (inl x) = absurd (T-not (some taken ks) m (found-some taken (at-c .member) (c-taken (leb→le c p x))))
+        go (inr x) = nleb→lt c p x
+
+    target-agrees : eqb p c ≡ eqb p target
+    target-agrees = cond-by (λ x. eqb p c ≡ eqb p x) (some taken ks) first-up-to last-beyond
+      where
+        last-beyond : T (not (some taken ks)) → eqb p c ≡ eqb p (last candidate ks)
+        last-beyond m =
+            let h = none-up-to m in
+            let l = last-ge candidate c ks sorted (at-c .member) (at-c .passes) in
+            ne-eqb p c (λ e. omega arith) ∙ sym (ne-eqb p (last candidate ks) (λ e. omega arith))
+
+abbrev pub isReady : List ℕ → ℕ → Bool
+isReady s c = is Ready (stateAt s c)
+
+abbrev pub ReadyChild : List ℕ → List ℕ → ℕ → ℕ → Type 0
+ReadyChild t s q c = Found (isReady s) (children t q) c
+
+-- Picks choose a Ready child where there is one, and can choose each.
+module _ (t s : List ℕ) (pick : ℕ → ℕ) (q : ℕ) where
+  abbrev lowest : ℕ
+  lowest = first (isReady s) (children t q)
+
+  pub chosen-found : T (some (isReady s) (children t q)) → ReadyChild t s q (chosen t s pick q)
+  unfolding chosen
+  chosen-found h = go (getD (children t q) (pick q) lowest) (at-place (children t q) (pick q) lowest)
+    where
+      fallback : ReadyChild t s q lowest
+      fallback = first-found (isReady s) (children t q) h
+
+      go :
+          (c : ℕ) → List·Memᴰ c (children t q) ⊎ (c ≡ lowest)
+          → ReadyChild t s q (cond (isReady s c) c lowest)
+      go c (inl m) =
+          cond-by (ReadyChild t s q) (isReady s c) (λ r. record { member = m; passes = r }) (λ r. fallback)
+      go c (inr e) = cond-by (ReadyChild t s q) (isReady s c) (λ r. rw e fallback) (λ r. fallback)
+
+  chosen-rank : (c : ℕ) → ReadyChild t s q c → pick q ≡ rank t c → chosen t s pick q ≡ c
+  unfolding chosen
+  chosen-rank c f e =
+      rw (e, at-rank t q c lowest (member-child t q c (f .member)), is-true (isReady s c) (f .passes))
+
+-- The witness.
+module _ (t s shown : List ℕ) (q : ℕ) where
+  abbrev ready : Bool
+  ready = some (isReady s) (children t q)
+
+  activated-found : T ready → ReadyChild t s q (activatedChild t s shown q)
+  unfolding activatedChild
+  activated-found = target-found (isReady s) (λ c. is Activated (stateAt shown c)) (children t q)
+
+  -- where among the Ready children up to p exactly c is shown Activated, p is the activated child exactly if it is c
+  pub activated-agrees :
+      (c p : ℕ) → ReadyChild t s q c
+      → ((r : ℕ) → ReadyChild t s q r → r ≤ p → is Activated (stateAt shown r) ≡ eqb r c)
+      → eqb p c ≡ eqb p (activatedChild t s shown q)
+  unfolding activatedChild
+  activated-agrees =
+      target-agrees (isReady s) (λ r. is Activated (stateAt shown r)) (children t q) (sorted-children t q)
+
+  -- it chooses the child that is shown
+  pub witness-chooses :
+      bodyOf (entry t q) ≡ AnyOrder → T ready → chosen t s (witness t s shown) q ≡ activatedChild t s shown q
+  unfolding witness
+  witness-chooses b r =
+      chosen-rank t s (witness t s shown) q (activatedChild t s shown q) (activated-found r) (rw (b, is-true ready r))
+
+  -- it is a pick that words may hold
+  pub witness-allowed :
+      (bodyOf (entry t q) ≡ AnyOrder → 0 < length (children t q))
+      → T (pickAllowed (bodyOf (entry t q)) (length (children t q)) (witness t s shown q))
+  unfolding witness
+  witness-allowed h = go (bodyOf (entry t q)) h
+    where
+      go :
+          (body : Body) → (body ≡ AnyOrder → 0 < length (children t q))
+          → T (pickAllowed body (length (children t q)) (cond (isAnyOrder body && ready) (rank t (activatedChild t s shown q)) 0))
+      go Leaf k = tt
+      go Sequential k = tt
+      go Parallel k = tt
+      go AnyOrder k =
+          lt→ltb (cond ready (rank t (activatedChild t s shown q)) 0) (length (children t q))
+          (cond-by (λ x. x < length (children t q)) ready
+          (λ r. rank-small t q _ (member-child t q _ (activated-found r .member))) (λ r. k refl))
+      go Unordered k = tt

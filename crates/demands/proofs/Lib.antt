@@ -1,0 +1,21 @@
+-- Laws and theorems over the definitions of crate rules. The theorems: Witness and PlanByPlan (which picks explain the states
+-- shown), Valid (a step keeps check 11 passed), Kept and Accepted (demand 3's last rules), Unique (one verdict). The rest leads
+-- to them.
+pub mod Numbers
+pub mod Tests
+pub mod Lists
+pub mod States
+pub mod Children
+pub mod Moves
+pub mod Step
+pub mod Orders
+pub mod Choice
+pub mod SameStep
+pub mod Witness
+pub mod PlanByPlan
+pub mod HandedIn
+pub mod Went
+pub mod Valid
+pub mod Kept
+pub mod Accepted
+pub mod Unique

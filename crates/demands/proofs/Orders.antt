@@ -1,0 +1,151 @@
+-- Laws of orders: to whom each body gives which, and when a choice makes no difference. Assumes nothing.
+use Prim.Native.Nat.{ℕ}
+use mathlib.Core.Bool.{Bool, true, false, cond, not, _&&_}
+use mathlib.Core.Path.{_≡_, refl}
+use mathlib.Core.List.{List}
+use lib.Dec.{T, T-not, eqb, eqb→eq}
+use Rattle.rules.specs.States.{stateAt, is}
+use Rattle.rules.specs.Table.{entry, bodyOf, retryAborted}
+use Rattle.rules.specs.Words.{word}
+use Rattle.rules.specs.Step.{
+  move,
+  ordersOf,
+  none,
+  firstNotDone,
+  gateOpen,
+  mayActivate,
+  tooManyLost,
+  childrenComplete,
+  orders,
+  moveOf,
+}
+use Rattle.rules.specs.declared.Body.{Body}
+use Rattle.rules.specs.declared.Body.the-variants.{Leaf, Sequential, Parallel, AnyOrder, Unordered}
+use Rattle.rules.specs.declared.PlanEntry.{PlanEntry}
+use Rattle.rules.specs.declared.Orders.{Orders}
+use Rattle.rules.specs.declared.PlanState.{PlanState}
+use Rattle.rules.specs.declared.PlanState.the-variants.{
+  Inactive,
+  Considered,
+  Possible,
+  Ready,
+  Activated,
+  Suspended,
+  Completed,
+  Aborted,
+  Rejected,
+}
+use Rattle.demands.proofs.Tests.{left, right, is-true, cond-by}
+use Rattle.demands.proofs.States.{is-it}
+use Rattle.demands.proofs.Step.{told, moveUnder}
+
+-- A plan q, whose new state is `now`, and its child p.
+module _ (t s w : List ℕ) (choice : ℕ → ℕ) (now : PlanState) (q p : ℕ) where
+  abbrev given : Orders
+  given = told t s w choice now q p
+
+  -- an order that is given is given by an Activated plan, and is one of its body's
+  if-given :
+      (order : Orders → Bool) → T (not (order none)) → T (order given)
+      → T (is Activated now) × T (order (orders t s choice q p))
+  if-given order h =
+      let was : Bool = is Activated (stateAt s q) in
+      cond-by (λ o. T (order o) → T (is Activated now) × T (order (orders t s choice q p))) (was && is Activated now)
+      (λ b k. (right was (is Activated now) b, k)) (λ b k. absurd (T-not (order none) h k))
+
+  pub activates-while : T (given .activates) → T (is Activated now)
+  activates-while h = if-given (λ o. o .activates) tt h .0
+
+  pub activates-chosen : bodyOf (entry t q) ≡ AnyOrder → T (given .activates) → T (mayActivate t s q) × (p ≡ choice q)
+  unfolding orders
+  activates-chosen b h =
+      let k : T (mayActivate t s q && eqb p (choice q)) = rw b at (if-given (λ o. o .activates) tt h .1) in
+      (left (mayActivate t s q) (eqb p (choice q)) k, eqb→eq p (choice q) (right (mayActivate t s q) (eqb p (choice q)) k))
+
+  pub considers-next : bodyOf (entry t q) ≡ Sequential → T (given .considers) → p ≡ firstNotDone t s q
+  unfolding orders
+  considers-next b h = eqb→eq p (firstNotDone t s q) (rw b at (if-given (λ o. o .considers) tt h .1))
+
+  pub retries-again : T (given .retries) → T (retryAborted (entry t q))
+  unfolding orders
+  retries-again h = go (bodyOf (entry t q)) (if-given (λ o. o .retries) tt h .1)
+    where
+      again : Bool
+      again = retryAborted (entry t q)
+
+      go :
+          (body : Body)
+          → T (ordersOf body again (eqb p (firstNotDone t s q)) (gateOpen t s q) (mayActivate t s q && eqb p (choice q)) .retries)
+          → T again
+      go Leaf k = absurd k
+      go Sequential k = left again (eqb p (firstNotDone t s q)) k
+      go Parallel k = k
+      go AnyOrder k = k
+      go Unordered k = k
+
+-- what any-order would activate counts only for a Ready child of an any-order plan
+chosen-counts :
+    (parent : PlanState) (e : PlanEntry) (x : ℕ) (lost mayComplete : Bool) (body : Body) (again isNext gate b c : Bool)
+    (old : PlanState) → (body ≡ AnyOrder → old ≡ Ready → b ≡ c)
+    → move parent (ordersOf body again isNext gate b) e x lost mayComplete old
+    ≡ move parent (ordersOf body again isNext gate c) e x lost mayComplete old
+chosen-counts parent e x l m Leaf again n g b c old h = refl
+chosen-counts parent e x l m Sequential again n g b c old h = refl
+chosen-counts parent e x l m Parallel again n g b c old h = refl
+chosen-counts parent e x l m Unordered again n g b c old h = refl
+chosen-counts parent e x l m AnyOrder again n g b c Inactive h = refl
+chosen-counts parent e x l m AnyOrder again n g b c Considered h = refl
+chosen-counts parent e x l m AnyOrder again n g b c Possible h = refl
+chosen-counts parent e x l m AnyOrder again n g b c Ready h = rw (h refl refl)
+chosen-counts parent e x l m AnyOrder again n g b c Activated h = refl
+chosen-counts parent e x l m AnyOrder again n g b c Suspended h = refl
+chosen-counts parent e x l m AnyOrder again n g b c Completed h = refl
+chosen-counts parent e x l m AnyOrder again n g b c Aborted h = refl
+chosen-counts parent e x l m AnyOrder again n g b c Rejected h = refl
+
+-- Where a plan may choose, and what it then shows of a Ready child.
+pub record Chooses (t s : List ℕ) (now : PlanState) (q : ℕ) : Type 0 where
+  pub body : bodyOf (entry t q) ≡ AnyOrder
+  pub stays : T (is Activated (stateAt s q) && is Activated now)
+  pub free : T (mayActivate t s q)
+
+module _ (t s w : List ℕ) (now : PlanState) (q p : ℕ) where
+  pub same-move :
+      (choice other : ℕ → ℕ) → (Chooses t s now q → stateAt s p ≡ Ready → eqb p (choice q) ≡ eqb p (other q))
+      → moveUnder t s w choice now q p ≡ moveUnder t s w other now q p
+  unfolding orders
+  same-move choice other h = go (is Activated (stateAt s q) && is Activated now) refl
+    where
+      go :
+          (b : Bool) → (is Activated (stateAt s q) && is Activated now) ≡ b
+          → moveOf t s w choice now (cond b (orders t s choice q p) none) p
+          ≡ moveOf t s w other now (cond b (orders t s other q p) none) p
+      go true e =
+          chosen-counts now (entry t p) (word w p) (tooManyLost t s p) (childrenComplete t s p) (bodyOf (entry t q))
+          (retryAborted (entry t q)) (eqb p (firstNotDone t s q)) (gateOpen t s q) (mayActivate t s q && eqb p (choice q))
+          (mayActivate t s q && eqb p (other q)) (stateAt s p) chooses
+        where
+          chooses :
+              bodyOf (entry t q) ≡ AnyOrder → stateAt s p ≡ Ready
+              → (mayActivate t s q && eqb p (choice q)) ≡ (mayActivate t s q && eqb p (other q))
+          chooses b r = if-free (mayActivate t s q) (λ f. h (record { body = b; stays = rw e tt; free = f }) r)
+            where
+              if-free :
+                  (free : Bool) → (T free → eqb p (choice q) ≡ eqb p (other q))
+                  → (free && eqb p (choice q)) ≡ (free && eqb p (other q))
+              if-free true k = k tt
+              if-free false k = refl
+      go false e = refl
+
+  pub shows-chosen :
+      (choice : ℕ → ℕ) → Chooses t s now q → stateAt s p ≡ Ready
+      → is Activated (moveUnder t s w choice now q p) ≡ eqb p (choice q)
+  unfolding orders
+  shows-chosen choice c r =
+      let was = is-it Activated (stateAt s q) (left (is Activated (stateAt s q)) (is Activated now) (c .stays)) in
+      let still = is-it Activated now (right (is Activated (stateAt s q)) (is Activated now) (c .stays)) in
+      rw (still, was, r, c .body, is-true (mayActivate t s q) (c .free)) (go (eqb p (choice q)))
+    where
+      go : (b : Bool) → is Activated (cond b Activated Ready) ≡ b
+      go true = refl
+      go false = refl

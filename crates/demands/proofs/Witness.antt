@@ -1,0 +1,91 @@
+-- Some picks explain the first k states shown exactly if the witness does. Assumes nothing.
+use Prim.Native.Nat.{ℕ, zero, suc, _≤_, _<_}
+use native.Mathlib.Omega.{arith}
+use mathlib.Core.Bool.{false, not, Bool·beq, true≢false}
+use mathlib.Core.Path.{_≡_, sym, _∙_}
+use mathlib.Core.Logic.{_↔_}
+use mathlib.Core.List.{List}
+use lib.ListN.{length, take}
+use lib.Dec.{T, eqb}
+use Rattle.rules.specs.Lists.{some}
+use Rattle.rules.specs.States.{stateAt, is}
+use Rattle.rules.specs.Table.{planCount, entry, bodyOf, children}
+use Rattle.rules.specs.Step.{chosen, stepBy, stepUnder}
+use Rattle.rules.specs.Record.{Explained}
+use Rattle.rules.specs.Answers.{unfit, tableCheck}
+use Rattle.rules.specs.Demands.{SubPlan}
+use Rattle.rules.specs.declared.Body.the-variants.{AnyOrder}
+use Rattle.rules.specs.declared.Outcome.the-variants.{Done}
+use Rattle.rules.specs.declared.PlanState.the-variants.{Ready, Activated}
+use Rattle.rules.proofs.Tree.{Passes, passes, Tree, tree, or-left}
+use Rattle.demands.specs.Witness.{activatedChild, witness}
+use Rattle.demands.proofs.Lists.{found-some}
+use Rattle.demands.proofs.Children.{child-member, member-child}
+use Rattle.demands.proofs.States.{is-it}
+use Rattle.demands.proofs.Step.{same-state, next, state-step, next-child}
+use Rattle.demands.proofs.Orders.{Chooses, shows-chosen}
+use Rattle.demands.proofs.Choice.{isReady, ReadyChild, chosen-found, activated-agrees, witness-chooses, witness-allowed}
+use Rattle.demands.proofs.SameStep.{same-step}
+
+some-ready : (t s : List ℕ) (q p : ℕ) → SubPlan t q p → stateAt s p ≡ Ready → T (some (isReady s) (children t q))
+some-ready t s q p c r = found-some (isReady s) (child-member t q p c) (rw r tt)
+
+-- the witness chooses what is shown
+pub witness-step :
+    (t s w shown : List ℕ) → Tree t → (k : ℕ) → k ≤ planCount t
+    → take k (stepUnder t s w (witness t s shown)) ≡ take k (stepBy t s w (activatedChild t s shown))
+unfolding stepUnder
+witness-step t s w shown tree k l =
+    same-step t s w tree (chosen t s (witness t s shown)) (activatedChild t s shown) k l
+    (λ q p c h m r. rw (witness-chooses t s shown q (m .body) (some-ready t s q p c r)))
+
+-- Picks that explain the first k states, and the choice of what is shown, move these plans alike.
+module _ (t s w shown : List ℕ) (tree : Tree t) (k : ℕ) (within : k ≤ planCount t) (explained : Explained t s w shown k) where
+  abbrev choice : ℕ → ℕ
+  choice = chosen t s (explained .pick)
+
+  shows-next : (p : ℕ) → p < k → stateAt shown p ≡ next t s w choice p
+  unfolding stepUnder
+  shows-next p l =
+      sym (same-state k (stepBy t s w choice) shown (explained .agrees) p l) ∙ state-step t s w choice p (omega arith)
+
+  same-choice :
+      (q p : ℕ) → SubPlan t q p → p < k → Chooses t s (next t s w choice q) q → stateAt s p ≡ Ready
+      → eqb p (choice q) ≡ eqb p (activatedChild t s shown q)
+  same-choice q p c l m r =
+      activated-agrees t s shown q (choice q) p
+      (chosen-found t s (explained .pick) q (some-ready t s q p c r)) marked
+    where
+      marked : (r : ℕ) → ReadyChild t s q r → r ≤ p → is Activated (stateAt shown r) ≡ eqb r (choice q)
+      marked r f h =
+          rw (shows-next r (omega arith), next-child t s w choice tree q r (member-child t q r (f .member)))
+          (shows-chosen t s w (next t s w choice q) q r choice m (is-it Ready (stateAt s r) (f .passes)))
+
+  pub shown-explains : take k (stepBy t s w (activatedChild t s shown)) ≡ take k shown
+  unfolding stepUnder
+  shown-explains = sym (same-step t s w tree choice (activatedChild t s shown) k within same-choice) ∙ explained .agrees
+
+-- by check 8 an any-order plan has children, so that there is a pick for it
+pub has-children : (t : List ℕ) → Passes t → (q : ℕ) → q < planCount t → bodyOf (entry t q) ≡ AnyOrder → 0 < length (children t q)
+unfolding unfit
+has-children t passed q l b =
+    let fit = or-left _ _ (or-left _ _ (or-left _ _ (rw b at (passed .fits q l)))) in
+    go (length (children t q)) fit
+  where
+    go : (n : ℕ) → not (Bool·beq false (eqb n 0)) ≡ false → 0 < n
+    go zero e = absurd (true≢false e)
+    go (suc n) e = omega arith
+
+pub witness-explains :
+    (t s w shown : List ℕ) → tableCheck t ≡ Done → (k : ℕ) → k ≤ planCount t
+    → Explained t s w shown k ↔ (take k (stepUnder t s w (witness t s shown)) ≡ take k shown)
+witness-explains t s w shown done k l =
+    let passed = passes t done in
+    let down = tree t passed in (
+      (λ e. witness-step t s w shown down k l ∙ shown-explains t s w shown down k l e),
+      (λ e. record {
+        pick = witness t s shown;
+        allowed = λ q h. witness-allowed t s shown q (has-children t passed q h);
+        agrees = e;
+      }),
+    )

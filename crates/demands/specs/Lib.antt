@@ -1,0 +1,3 @@
+-- What the theorems of this crate speak of beside the definitions of crate rules.
+pub mod Witness
+pub mod PassesStates
