@@ -1,0 +1,7 @@
+-- Laws for the proofs of this crate and of those above it.
+pub mod Broods
+pub mod Moves
+pub mod Calls
+pub mod Same
+pub mod Scenes
+pub mod HandedIn

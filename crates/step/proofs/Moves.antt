@@ -1,0 +1,132 @@
+-- How one plan's move comes from what is known of it and of its parent. Assumes nothing.
+use Prim.Native.Nat.{ℕ, zero, suc, _+_, _*_, _≤_, _<_}
+use native.Mathlib.Omega.{arith}
+use native.Mathlib.Numerals.{add-one}
+use mathlib.Core.Path.{_≡_, refl, sym, ap, _∙_}
+use mathlib.Core.Bool.{Bool, true, false, cond, _&&_}
+use mathlib.Core.List.{List, [], _∷_, _++_}
+use lib.Dec.{T, eqb, eqb-refl}
+use lib.ListN.{length, getD, take, set}
+use lib.Seq.{getD-take, take-suc-set}
+use Rattle.rules.specs.Bytes.{byteAt}
+use Rattle.rules.specs.States.{code, stateOf, stateAt, is}
+use Rattle.rules.specs.Table.{planCount, parent, entry, named, isChild, rank}
+use Rattle.rules.specs.Words.{word, pickOf}
+use Rattle.rules.specs.Step.{
+  move,
+  chosen,
+  orders,
+  none,
+  moveOf,
+  ordersIf,
+  newState,
+  stepFirst,
+  stepBy,
+  stepUnder,
+  step,
+}
+use Rattle.rules.specs.declared.PlanEntry.{PlanEntry}
+use Rattle.rules.specs.declared.Orders.{Orders}
+use Rattle.rules.specs.declared.PlanState.{PlanState}
+use Rattle.rules.specs.declared.PlanState.the-variants.{Activated}
+use Rattle.step.specs.Brood.{Child, Own}
+use Rattle.step.specs.Scene.{Scene}
+
+pub state-is : (s : List ℕ) (p : ℕ) → stateAt s p ≡ stateOf (byteAt s p)
+unfolding stateAt
+state-is s p = refl
+
+pub same-move :
+    (parent : PlanState) (o : Orders) {e e′ : PlanEntry} {x x′ : ℕ} {lost lost′ complete complete′ : Bool} {old old′ : PlanState}
+    → e ≡ e′ → x ≡ x′ → lost ≡ lost′ → complete ≡ complete′ → old ≡ old′
+    → move parent o e x lost complete old ≡ move parent o e′ x′ lost′ complete′ old′
+same-move parent o a b c d f = rw (a, b, c, d, f)
+
+-- what plan p's move reads of its own
+pub own : (t s w ranks names sets : List ℕ) → Scene t s w ranks names sets → (p : ℕ) → p < planCount t → Own t s w names sets p
+own t s w ranks names sets scene p l =
+    record {
+      small = omega (arith, scene .small);
+      table-room = omega (arith, scene .long);
+      states-room = omega (arith, scene .states-room);
+      words-room = omega (arith, scene .words-room);
+      names-room = omega (arith, scene .names-room);
+      sets-room = omega (arith, scene .sets-room);
+      collected = scene .collected p l;
+      brood = scene .brood p l;
+    }
+
+pub child-of : (t : List ℕ) (q p : ℕ) → 0 < p → p < planCount t → q ≡ parent t p → Child t q p
+child-of t q zero h l e = absurd (omega arith)
+child-of t q (suc p) h l e = record { within = l; child = rw e (eqb-refl (parent t (suc p))) }
+
+module _ (t s w : List ℕ) (choice : ℕ → ℕ) where
+  -- orders, given whether the parent was and stays Activated
+  module _ (before after : PlanState) (q p : ℕ) where
+    pub orders-given : (is Activated before && is Activated after) ≡ true → ordersIf t s w choice before after q p ≡ orders t s choice q p
+    orders-given e = rw e
+
+    pub orders-none : (is Activated before && is Activated after) ≡ false → ordersIf t s w choice before after q p ≡ none
+    orders-none e = rw e
+
+  -- the new state of a child
+  pub new-child :
+      (new : List ℕ) (p : ℕ) → 0 < p
+      → newState t s w choice new p
+      ≡ moveOf t s w choice (stateAt new (parent t p))
+      (ordersIf t s w choice (stateAt s (parent t p)) (stateAt new (parent t p)) (parent t p) p)
+      p
+  new-child new zero h = absurd (omega arith)
+  new-child new (suc p) h = refl
+
+  -- the same, from what the code has in hand: the parent's number, its states before and after, its orders, and the move under them
+  module _ (new : List ℕ) (p q : ℕ) (h : 0 < p) (is-parent : q ≡ parent t p) where
+    pub child-move :
+        (before after : PlanState) (o : Orders) (r : PlanState) → before ≡ stateOf (byteAt s q) → after ≡ stateOf (byteAt new q)
+        → o ≡ ordersIf t s w choice before after q p → r ≡ moveOf t s w choice after o p → r ≡ newState t s w choice new p
+    child-move before after o r eb ea eo er =
+        er
+        ∙ ap (λ (x : Orders). moveOf t s w choice after x p) eo
+        ∙ ap (λ (x : PlanState). moveOf t s w choice after (ordersIf t s w choice x after q p) p) (eb ∙ sym (state-is s q))
+        ∙ ap (λ (x : PlanState). moveOf t s w choice x (ordersIf t s w choice (stateAt s q) x q p) p) (ea ∙ sym (state-is new q))
+        ∙ ap
+        (λ (x : ℕ). moveOf t s w choice (stateAt new x) (ordersIf t s w choice (stateAt s x) (stateAt new x) x p) p)
+        is-parent
+        ∙ sym (new-child new p h)
+
+    pub same-choice :
+        (r chosen : ℕ) → r ≡ rank t p → eqb (rank t p) chosen ≡ eqb p (choice (parent t p)) → eqb r chosen ≡ eqb p (choice q)
+    same-choice r chosen er e = rw (er, is-parent) e
+
+  -- only the parent's new state is read of the new states
+  pub prefix-state :
+      (new : List ℕ) (p : ℕ) → 0 < p → parent t p < p → newState t s w choice (take p new) p ≡ newState t s w choice new p
+  prefix-state new p h l =
+      new-child (take p new) p h
+      ∙ ap
+      (λ (x : PlanState). moveOf t s w choice x (ordersIf t s w choice (stateAt s (parent t p)) x (parent t p) p) p)
+      (state-is (take p new) (parent t p) ∙ ap stateOf (getD-take p new (parent t p) 0 l) ∙ sym (state-is new (parent t p)))
+      ∙ sym (new-child new p h)
+
+  -- the new states, plan by plan
+  pub step-root : (new : List ℕ) (v : ℕ) → 0 < length new → v ≡ code (newState t s w choice new 0) → take 1 (set new 0 v) ≡ stepFirst t s w choice 1
+  unfolding stepFirst
+  step-root new v l e = take-suc-set new 0 v l ∙ ap (λ (x : ℕ). x ∷ []) e
+
+  pub step-child :
+      (new : List ℕ) (p v : ℕ) → 0 < p → parent t p < p → p < length new → v ≡ code (newState t s w choice new p)
+      → take p new ≡ stepFirst t s w choice p → take (p + 1) (set new p v) ≡ stepFirst t s w choice (p + 1)
+  unfolding stepFirst
+  step-child new p v h up l e before =
+      rw (add-one p)
+      (take-suc-set new p v l
+      ∙ ap (λ (x : List ℕ). x ++ (v ∷ [])) before
+      ∙ ap (λ (x : ℕ). stepFirst t s w choice p ++ (x ∷ [])) (e ∙ ap code (sym (prefix-state new p h up) ∙ ap (λ (x : List ℕ). newState t s w choice x p) before)))
+
+-- under the picks of the words
+abbrev pub picked : List ℕ → List ℕ → List ℕ → ℕ → ℕ
+picked t s w = chosen t s (λ q. pickOf (word w q))
+
+pub whole-step : (t s w : List ℕ) → stepFirst t s w (picked t s w) (planCount t) ≡ step t s w
+unfolding step stepUnder stepBy
+whole-step t s w = refl

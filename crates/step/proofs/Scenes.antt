@@ -1,0 +1,142 @@
+-- From a call that passes to what the plans' moves read: the words of a survey are those of each plan's children. Assumes nothing.
+use Prim.Native.Nat.{ℕ, zero, suc, _+_, _*_, _≤_, _<_}
+use native.Mathlib.Omega.{arith}
+use mathlib.Core.Path.{_≡_, refl, sym, ap, _∙_}
+use mathlib.Core.Bool.{Bool, true, false, cond, not, _||_, or-false, false≢true}
+use mathlib.Core.List.{List, [], _∷_, _++_, map, map-append, append-nil}
+use lib.Dec.{eqb}
+use lib.ListN.{length, length-append, take}
+use borrow.Author.Tests.{eq-eqb, eqb-true, ltb-true, not-false}
+use Rattle.rules.specs.Bytes.{byteAt}
+use Rattle.rules.specs.States.{code, isCode, stateOf, stateAt, is}
+use Rattle.rules.specs.Table.{planCount, parent, isChild, childrenBefore, children, rank}
+use Rattle.rules.specs.HandedIn.{badState, breaksUnder}
+use Rattle.rules.specs.Answers.{tableCheck}
+use Rattle.rules.specs.declared.PlanState.{PlanState}
+use Rattle.rules.specs.declared.Outcome.the-variants.{Done}
+use Rattle.rules.proofs.Tree.{or-left, Passes, passes, Tree, tree}
+use Rattle.children.specs.Sets.{bits, setBefore, setOf, Rooted, Narrow, Surveyed}
+use Rattle.step.specs.Brood.{Brood}
+use Rattle.step.specs.Scene.{Scene}
+use Rattle.step.specs.Calls.{Ready}
+use Rattle.step.proofs.Broods.{code-lt}
+
+-- the code of the state that a code stands for
+code-of : (b : ℕ) → b < 9 → code (stateOf b) ≡ b
+code-of zero l = refl
+code-of (suc zero) l = refl
+code-of (suc (suc zero)) l = refl
+code-of (suc (suc (suc zero))) l = refl
+code-of (suc (suc (suc (suc zero)))) l = refl
+code-of (suc (suc (suc (suc (suc zero))))) l = refl
+code-of (suc (suc (suc (suc (suc (suc zero)))))) l = refl
+code-of (suc (suc (suc (suc (suc (suc (suc zero))))))) l = refl
+code-of (suc (suc (suc (suc (suc (suc (suc (suc zero)))))))) l = refl
+code-of (suc (suc (suc (suc (suc (suc (suc (suc (suc b))))))))) l = absurd (omega arith)
+
+state-test : (s : List ℕ) (c : ℕ) → byteAt s c < 9 → (x : PlanState) → eqb (byteAt s c) (code x) ≡ is x (stateAt s c)
+unfolding stateAt
+state-test s c l x = ap (λ (b : ℕ). eqb b (code x)) (sym (code-of (byteAt s c) l)) ∙ sym (or-false _)
+
+-- tests that agree on the first k plans make the same set
+module _ (t : List ℕ) (q : ℕ) (f g : ℕ → Bool) where
+  same-tests : (k : ℕ) → ((c : ℕ) → c < k → f c ≡ g c) → map f (childrenBefore t q k) ≡ map g (childrenBefore t q k)
+  unfolding childrenBefore
+  same-tests zero h = refl
+  same-tests (suc k) h = go (isChild t q k) (same-tests k (λ c l. h c (omega arith)))
+    where
+      go :
+          (b : Bool) → map f (childrenBefore t q k) ≡ map g (childrenBefore t q k)
+          → map f (childrenBefore t q k ++ cond b (k ∷ []) []) ≡ map g (childrenBefore t q k ++ cond b (k ∷ []) [])
+      go true ih = simp map-append (rw (ih, h k (omega arith)) refl)
+      go false ih = simp map-append (rw ih refl)
+
+  same-set : (k : ℕ) → ((c : ℕ) → c < k → f c ≡ g c) → setBefore t k q f ≡ setBefore t k q g
+  unfolding setBefore
+  same-set k h = ap bits (same-tests k h)
+
+-- ranks below 64 make at most 64 children
+few-children : (t : List ℕ) (n : ℕ) → ((p : ℕ) → p < n → rank t p < 64) → (q k : ℕ) → k ≤ n → length (childrenBefore t q k) ≤ 64
+unfolding childrenBefore rank
+few-children t n narrow q zero l = omega arith
+few-children t n narrow q (suc k) l = go (isChild t q k) (is-parent k) (few-children t n narrow q k (omega arith))
+  where
+    is-parent : (j : ℕ) → isChild t q j ≡ true → parent t j ≡ q
+    is-parent zero e = absurd (false≢true e)
+    is-parent (suc j) e = eqb-true (parent t (suc j)) q e
+
+    go :
+        (b : Bool) → (b ≡ true → parent t k ≡ q) → length (childrenBefore t q k) ≤ 64
+        → length (childrenBefore t q k ++ cond b (k ∷ []) []) ≤ 64
+    go true own ih =
+        let e = own refl in
+        let r : length (childrenBefore t q k) < 64 = rw e at (narrow k (omega arith)) in
+        simp length-append (omega arith)
+    go false own ih = simp length-append (omega arith)
+
+pub rooted : (t : List ℕ) → tableCheck t ≡ Done → (n : ℕ) → n ≡ planCount t → Rooted t n
+rooted t done n whole =
+    let shape = tree t (passes t done) in
+    record {
+      small = omega (arith, shape .small);
+      room = omega (arith, passes t done .long);
+      down = λ p h l. shape .down p h (omega arith);
+    }
+
+module _ (t s w ranks names : List ℕ) (ready : Ready t s w ranks names) (n : ℕ) (whole : n ≡ planCount t) where
+  passed : Passes t
+  passed = passes t (ready .done)
+
+  shape : Tree t
+  shape = tree t passed
+
+  pub narrow : Narrow t n ranks
+  narrow =
+      record {
+        some = omega (arith, shape .some);
+        ranked = λ p l. ready .ranked p (omega arith);
+        narrow = λ p l. shape .narrow p (omega arith);
+      }
+
+  code-at : (p : ℕ) → badState t s p ≡ false → isCode (byteAt s p) ≡ true
+  unfolding badState
+  code-at zero e = not-false (isCode (byteAt s 0)) e
+  code-at (suc k) e = not-false (isCode (byteAt s (suc k))) (or-left _ (breaksUnder t s (parent t (suc k)) (suc k)) e)
+
+  pub codes : (p : ℕ) → p < n → byteAt s p < 9
+  codes p l = ltb-true (byteAt s p) 9 (code-at p (ready .passes .unbroken p (omega arith)))
+
+  module _ (sets : List ℕ) (surveyed : Surveyed t s n sets) (room : n * 9 ≤ length sets) where
+    brood : (q : ℕ) → q < planCount t → Brood t s q sets
+    unfolding setOf children
+    brood q l =
+        record {
+          small = shape .small;
+          few = few-children t (planCount t) (shape .narrow) q (planCount t) (omega arith);
+          word =
+              λ x.
+              surveyed .word q (code x) (omega arith) (code-lt x)
+              ∙ same-set t q _ _ n (λ c i. state-test s c (codes c i) x)
+              ∙ ap (λ (k : ℕ). setBefore t k q (λ c. is x (stateAt s c))) whole;
+        }
+
+    pub scene : Scene t s w ranks names sets
+    scene =
+        record {
+          some = shape .some;
+          small = shape .small;
+          long = passed .long;
+          states-room = omega (arith, ready .passes .long);
+          words-room = omega (arith, ready .words);
+          ranks-room = omega (arith, shape .small, ready .ranks-room);
+          names-room = omega (arith, shape .small, ready .names-room);
+          sets-room = omega arith;
+          down = shape .down;
+          ranked = ready .ranked;
+          collected = ready .collected;
+          brood = brood;
+        }
+
+-- the part of a list for n plans is that for the table's
+pub part-of-all : (n k : ℕ) (xs ys : List ℕ) → n ≡ k → take n xs ≡ ys → take k xs ≡ ys
+part-of-all n k xs ys e h = rw e at h

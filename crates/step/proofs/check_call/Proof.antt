@@ -1,0 +1,43 @@
+-- `check_call` meets its contract: the table's checks, then those of what is lent with it. Assumes nothing.
+use mathlib.Core.Path.{_≡_, sym, _∙_}
+use native.Mathlib.Omega.{arith}
+use borrow.Author.Needs.{needs}
+use Rattle.step.proofs.Calls.{call-refused, call-lent}
+use Rattle.step.proofs.check_call.Statement.{statement}
+use Rattle.step.proofs.check_call.Tie as tie
+
+check-lent-requires : tie.Need-check-lent-requires
+check-lent-requires c κs =
+    let read = c .before .before .before .before .before .before .before .before .before .read-table .ensures in
+    let told = c .before .enum-told .given .1 in
+    record {
+      done = sym (read .is) ∙ told;
+      room = omega (arith, c .before .before .before .before .before .before .before .before .before .before .before .before .before .before .before .before .before .before .before .pre);
+      counted = read .facts told .counted;
+    }
+
+returns : tie.Need-returns
+returns c = call-refused _ _ _ _ _ _ _ (sym (c .before .before .before .before .before .before .before .before .before .read-table .ensures .is) ∙ c .before .why .given .1)
+
+returns-2 : tie.Need-returns-2
+returns-2 c =
+    let read = c .before .before .before .before .before .before .before .before .before .before .read-table .ensures in
+    let told = c .before .before .enum-told .given .1 in
+    call-lent _ _ _ _ _ _ _ (sym (read .is) ∙ told) (read .facts told) (c .check-lent .ensures)
+
+pub check-call-spec : {M : Type 1} → statement M
+check-call-spec =
+    tie.close
+    (tie.spec
+    (λ c κs. search needs)
+    (λ c. search needs)
+    (λ c. search needs)
+    check-lent-requires
+    (λ c. search needs)
+    (λ c. search needs)
+    (λ c. search needs)
+    returns
+    (λ c. search needs)
+    (λ c. search needs)
+    (λ c. search needs)
+    returns-2)

@@ -1,0 +1,5 @@
+-- What the contracts of this crate speak of beside document 01's definitions.
+pub mod Brood
+pub mod Scene
+pub mod HandedIn
+pub mod Calls

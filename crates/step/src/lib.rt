@@ -1,0 +1,698 @@
+// One synchronous step and the run to rest: checks 10 to 12 of document 01, the move of one plan, and the loops above it.
+// A step costs O(n) for n plans; nothing is allocated. Assumes nothing.
+ghost use mathlib.Core.Path.{_≡_};
+ghost use mathlib.Core.Bool.{Bool, _||_};
+ghost use mathlib.Core.List.{List, []};
+ghost use Prim.Native.Nat.{ℕ, _+_, _*_, _<_, _≤_};
+ghost use lib.ListN.{length, getD, take};
+ghost use lib.Dec.{eqb};
+ghost use Rattle.rules.specs.Lists.{all, same};
+ghost use Rattle.rules.specs.States.{code, stateAt, is, inExecution, ended};
+ghost use Rattle.rules.specs.Table.{planCount, parent, entry, named, retryAborted, children};
+ghost use Rattle.rules.specs.Table.{rank as Table·rank};
+ghost use Rattle.rules.specs.Step.{moveOn, cutOff, move, none, ordersOf, tooManyLost, childrenComplete, firstNotDone, gateOpen, mayActivate, orders, moveOf, ordersIf, newState, step, done};
+ghost use Rattle.rules.specs.HandedIn.{suits, badState};
+ghost use Rattle.rules.specs.Step.{chosen as Step·chosen};
+ghost use Rattle.children.specs.Sets.{setOf, Rooted};
+ghost use Rattle.table.specs.Lowest.{Lowest};
+ghost use Rattle.step.specs.HandedIn.{breaksBy};
+ghost use Rattle.rules.specs.Words.{pickOf, pickAllowed, otherBits, satisfiedOnly, contradicts};
+ghost use Rattle.rules.specs.Answers.{badWord, stepAnswer, stepStates};
+ghost use Rattle.step.specs.Calls.{wrongWord, Counted, lentCheck, Tabled, Called, Ready};
+ghost use Rattle.rules.specs.declared.PlanState.the-variants.{Inactive, Activated};
+ghost use Rattle.step.specs.Brood.{Brood, Child, Own};
+ghost use Rattle.step.specs.Scene.{Scene};
+use children::survey;
+use rules::Body;
+use rules::Condition;
+use rules::Orders;
+use rules::Outcome;
+use rules::PlanEntry;
+use rules::PlanState;
+use rules::Refusal;
+use rules::entry_at;
+use rules::is_set;
+use rules::parent_at;
+use rules::u16_at;
+use rules::word_at;
+use table::read_table;
+
+// The new state of a plan under a parent in execution, by its old state. `held` says that the parent is Suspended.
+fn moved_on(
+    held: bool,
+    o: Orders,
+    e: PlanEntry,
+    x: u32,
+    lost: bool,
+    complete: bool,
+    old: PlanState,
+) -> PlanState
+    ensures { λ r. ⌜ r ≡ moveOn held o e x lost complete old ⌝ }
+{
+    match old {
+        PlanState::Inactive => {
+            if o.considers {
+                PlanState::Considered
+            } else {
+                PlanState::Inactive
+            }
+        }
+        PlanState::Considered => {
+            if e.holds(Condition::Filter, x) {
+                PlanState::Possible
+            } else if !e.satisfiable(Condition::Filter, x) {
+                PlanState::Rejected
+            } else {
+                PlanState::Considered
+            }
+        }
+        PlanState::Possible => {
+            if e.holds(Condition::Setup, x) {
+                PlanState::Ready
+            } else if !e.satisfiable(Condition::Setup, x) {
+                PlanState::Rejected
+            } else {
+                PlanState::Possible
+            }
+        }
+        PlanState::Ready => {
+            if o.activates {
+                PlanState::Activated
+            } else {
+                PlanState::Ready
+            }
+        }
+        PlanState::Activated => {
+            if e.holds(Condition::Abort, x) | lost {
+                PlanState::Aborted
+            } else if held | e.holds(Condition::Suspend, x) {
+                PlanState::Suspended
+            } else if e.holds(Condition::Complete, x) & complete {
+                PlanState::Completed
+            } else {
+                PlanState::Activated
+            }
+        }
+        PlanState::Suspended => {
+            if e.holds(Condition::Abort, x) | lost {
+                PlanState::Aborted
+            } else if !held & e.holds(Condition::Reactivate, x) {
+                PlanState::Activated
+            } else {
+                PlanState::Suspended
+            }
+        }
+        PlanState::Completed => PlanState::Completed,
+        PlanState::Aborted => {
+            if o.retries {
+                PlanState::Considered
+            } else {
+                PlanState::Aborted
+            }
+        }
+        PlanState::Rejected => PlanState::Rejected,
+    }
+}
+
+// The new state of a plan under an ended parent.
+fn cut_off(old: PlanState) -> PlanState
+    ensures { λ r. ⌜ r ≡ cutOff old ⌝ }
+{
+    match old {
+        PlanState::Inactive => PlanState::Inactive,
+        PlanState::Considered => PlanState::Rejected,
+        PlanState::Possible => PlanState::Rejected,
+        PlanState::Ready => PlanState::Rejected,
+        PlanState::Activated => PlanState::Aborted,
+        PlanState::Suspended => PlanState::Aborted,
+        PlanState::Completed => PlanState::Completed,
+        PlanState::Aborted => PlanState::Aborted,
+        PlanState::Rejected => PlanState::Rejected,
+    }
+}
+
+// The move of one plan, by its parent's new state. It knows no tree.
+pub fn moved(
+    parent: PlanState,
+    o: Orders,
+    e: PlanEntry,
+    x: u32,
+    lost: bool,
+    complete: bool,
+    old: PlanState,
+) -> PlanState
+    ensures { λ r. ⌜ r ≡ move parent o e x lost complete old ⌝ }
+{
+    match parent {
+        PlanState::Inactive => PlanState::Inactive,
+        PlanState::Considered => PlanState::Inactive,
+        PlanState::Possible => PlanState::Inactive,
+        PlanState::Ready => PlanState::Inactive,
+        PlanState::Activated => moved_on(false, o, e, x, lost, complete, old),
+        PlanState::Suspended => moved_on(true, o, e, x, lost, complete, old),
+        PlanState::Completed => cut_off(old),
+        PlanState::Aborted => cut_off(old),
+        PlanState::Rejected => cut_off(old),
+    }
+}
+
+// No orders.
+fn no_orders() -> Orders
+    ensures { λ r. ⌜ r ≡ none ⌝ }
+{
+    Orders {
+        considers: false,
+        activates: false,
+        retries: false,
+    }
+}
+
+// What a plan orders one child, by the plan's body.
+fn orders_by(body: Body, again: bool, is_next: bool, gate: bool, is_chosen: bool) -> Orders
+    ensures { λ r. ⌜ r ≡ ordersOf body again «is_next» gate «is_chosen» ⌝ }
+{
+    match body {
+        Body::Leaf => no_orders(),
+        Body::Sequential => Orders {
+            considers: is_next,
+            activates: is_next,
+            retries: again & is_next,
+        },
+        Body::Parallel => Orders {
+            considers: true,
+            activates: gate,
+            retries: again,
+        },
+        Body::AnyOrder => Orders {
+            considers: true,
+            activates: is_chosen,
+            retries: again,
+        },
+        Body::Unordered => Orders {
+            considers: true,
+            activates: true,
+            retries: again,
+        },
+    }
+}
+
+// The children of plan q in a state, as a word.
+fn in_state(sets: &[u64], q: usize, state: PlanState) -> u64
+    requires { ⌜ (q < 256) × (q * 9 + 9 ≤ length (now sets)) ⌝ }
+    ensures { λ r. ⌜ r ≡ getD (now (sets .entry)) (q * 9 + code state) 0 ⌝ }
+{
+    sets[q * 9 + state.to_byte() as usize]
+}
+
+// The rank of q's first child that is not done; with none, a number that no child has as its rank.
+fn first_not_done(sets: &[u64], q: usize, again: bool) -> u32
+    requires { ⌜ (q < 256) × (q * 9 + 9 ≤ length (now sets)) ⌝ }
+    ensures { λ r. ⌜ ((t s : List ℕ) (p : ℕ) → Brood t s q (now (sets .entry)) → Child t q p → again ≡ retryAborted (entry t q) → eqb (Table·rank t p) r ≡ eqb p (firstNotDone t s q)) ⌝ }
+{
+    let done = in_state(sets, q, PlanState::Completed) | in_state(sets, q, PlanState::Rejected);
+    let aborted = in_state(sets, q, PlanState::Aborted);
+    if again {
+        return u64::trailing_zeros(!done);
+    }
+    u64::trailing_zeros(!(done | aborted))
+}
+
+// Whether the gate of a parallel plan q is open.
+fn gate_open(sets: &[u64], q: usize) -> bool
+    requires { ⌜ (q < 256) × (q * 9 + 9 ≤ length (now sets)) ⌝ }
+    ensures { λ r. ⌜ ((t s : List ℕ) → Brood t s q (now (sets .entry)) → r ≡ gateOpen t s q) ⌝ }
+{
+    let waiting = in_state(sets, q, PlanState::Inactive)
+        | in_state(sets, q, PlanState::Considered)
+        | in_state(sets, q, PlanState::Possible);
+    let running = in_state(sets, q, PlanState::Activated) | in_state(sets, q, PlanState::Suspended);
+    let over = in_state(sets, q, PlanState::Completed) | in_state(sets, q, PlanState::Aborted);
+    (waiting == 0) | ((running | over) != 0)
+}
+
+// Whether an any-order plan q may activate a child.
+fn may_activate(sets: &[u64], q: usize, again: bool) -> bool
+    requires { ⌜ (q < 256) × (q * 9 + 9 ≤ length (now sets)) ⌝ }
+    ensures { λ r. ⌜ ((t s : List ℕ) → Brood t s q (now (sets .entry)) → again ≡ retryAborted (entry t q) → r ≡ mayActivate t s q) ⌝ }
+{
+    let running = in_state(sets, q, PlanState::Activated) | in_state(sets, q, PlanState::Suspended);
+    let aborted = in_state(sets, q, PlanState::Aborted);
+    (running == 0) & !(again & (aborted != 0))
+}
+
+// What plan q, whose entry is e, orders its child of a rank; `chosen` is the rank that an any-order plan would activate.
+pub fn orders_to(e: PlanEntry, sets: &[u64], q: usize, rank: u32, chosen: u32) -> Orders
+    requires { ⌜ (q < 256) × (q * 9 + 9 ≤ length (now sets)) ⌝ }
+    ensures { λ r. ⌜ ((t s : List ℕ) (choice : ℕ → ℕ) (p : ℕ) → Brood t s q (now (sets .entry)) → Child t q p → e ≡ entry t q → rank ≡ Table·rank t p → eqb rank chosen ≡ eqb p (choice q) → r ≡ orders t s choice q p) ⌝ }
+{
+    let again = e.retries_aborted();
+    let is_next = rank == first_not_done(sets, q, again);
+    let is_chosen = may_activate(sets, q, again) & (rank == chosen);
+    orders_by(e.body_kind(), again, is_next, gate_open(sets, q), is_chosen)
+}
+
+// Whether too many children of plan p, whose entry is e, are lost.
+pub fn too_many_lost(e: PlanEntry, names: u64, sets: &[u64], p: usize) -> bool
+    requires { ⌜ (p < 256) × (p * 9 + 9 ≤ length (now sets)) ⌝ }
+    ensures { λ r. ⌜ ((t s : List ℕ) → Brood t s p (now (sets .entry)) → e ≡ entry t p → names ≡ setOf t p (λ c. named (entry t c)) → r ≡ tooManyLost t s p) ⌝ }
+{
+    let lost = in_state(sets, p, PlanState::Rejected) | in_state(sets, p, PlanState::Aborted);
+    !e.wait_for(names - (names & lost))
+}
+
+// Whether the children of plan p, whose entry is e, let it complete.
+pub fn children_complete(e: PlanEntry, names: u64, sets: &[u64], p: usize) -> bool
+    requires { ⌜ (p < 256) × (p * 9 + 9 ≤ length (now sets)) ⌝ }
+    ensures { λ r. ⌜ ((t s : List ℕ) → Brood t s p (now (sets .entry)) → e ≡ entry t p → names ≡ setOf t p (λ c. named (entry t c)) → r ≡ childrenComplete t s p) ⌝ }
+{
+    let completed = in_state(sets, p, PlanState::Completed);
+    e.wait_for(names & completed) & (!e.waits_for_optional() | all_ended(sets, p))
+}
+
+// Whether all children of plan p are ended.
+fn all_ended(sets: &[u64], p: usize) -> bool
+    requires { ⌜ (p < 256) × (p * 9 + 9 ≤ length (now sets)) ⌝ }
+    ensures { λ r. ⌜ ((t s : List ℕ) → Brood t s p (now (sets .entry)) → r ≡ all (λ c. ended (stateAt s c)) (children t p)) ⌝ }
+{
+    let waiting = in_state(sets, p, PlanState::Inactive)
+        | in_state(sets, p, PlanState::Considered)
+        | in_state(sets, p, PlanState::Possible);
+    let begun = in_state(sets, p, PlanState::Ready)
+        | in_state(sets, p, PlanState::Activated)
+        | in_state(sets, p, PlanState::Suspended);
+    (waiting | begun) == 0
+}
+
+// The rank of the child that an any-order plan q activates under a pick: the Ready child of that rank, else the lowest Ready one; with
+// none, a number that no child has as its rank.
+pub fn chosen_rank(sets: &[u64], q: usize, pick: u32) -> u32
+    requires { ⌜ (q < 256) × (q * 9 + 9 ≤ length (now sets)) × (pick < 64) ⌝ }
+    ensures { λ r. ⌜ ((t s : List ℕ) (picks : ℕ → ℕ) (p : ℕ) → Brood t s q (now (sets .entry)) → Child t q p → picks q ≡ pick → eqb (Table·rank t p) r ≡ eqb p (Step·chosen t s picks q)) ⌝ }
+{
+    let ready = in_state(sets, q, PlanState::Ready);
+    if (ready >> pick) % 2 == 1 {
+        return pick;
+    }
+    u64::trailing_zeros(ready)
+}
+
+fn is_activated(state: PlanState) -> bool
+    ensures { λ r. ⌜ r ≡ is Activated state ⌝ }
+{
+    state.to_byte() == PlanState::ACTIVATED
+}
+
+// The pick of an input word.
+fn pick_of(x: u32) -> u32
+    ensures is { λ r. ⌜ r ≡ pickOf x ⌝ }
+    ensures small { λ r. ⌜ r < 64 ⌝ }
+{
+    (x >> 24) % 64
+}
+
+// What a parent orders a child, given the parent's states before and after: nothing unless it was and stays Activated.
+fn orders_if(
+    before: PlanState,
+    after: PlanState,
+    e: PlanEntry,
+    sets: &[u64],
+    q: usize,
+    rank: u32,
+    chosen: u32,
+) -> Orders
+    requires { ⌜ (q < 256) × (q * 9 + 9 ≤ length (now sets)) ⌝ }
+    ensures { λ r. ⌜ ((t s w : List ℕ) (choice : ℕ → ℕ) (p : ℕ) → Brood t s q (now (sets .entry)) → Child t q p → e ≡ entry t q → rank ≡ Table·rank t p → eqb rank chosen ≡ eqb p (choice q) → r ≡ ordersIf t s w choice before after q p) ⌝ }
+{
+    if is_activated(before) & is_activated(after) {
+        return orders_to(e, sets, q, rank, chosen);
+    }
+    no_orders()
+}
+
+// The new state of plan p, given its parent's new state and what its parent orders.
+fn next_under(
+    table: &[u8],
+    names: &[u64],
+    sets: &[u64],
+    old: &[u8],
+    words: &[u8],
+    p: usize,
+    parent: PlanState,
+    o: Orders,
+) -> PlanState
+    requires { ⌜ Own (now table) (now old) (now words) (now names) (now sets) p ⌝ }
+    ensures { λ r. ⌜ ((choice : ℕ → ℕ) → r ≡ moveOf (now (table .entry)) (now (old .entry)) (now (words .entry)) choice parent o p) ⌝ }
+{
+    let e = entry_at(table, p);
+    let lost = too_many_lost(e, names[p], sets, p);
+    let complete = children_complete(e, names[p], sets, p);
+    moved(
+        parent,
+        o,
+        e,
+        word_at(words, p),
+        lost,
+        complete,
+        PlanState::from_byte(old[p]),
+    )
+}
+
+// The new state of plan 0: as under a parent that stays Activated, considers it and activates it.
+pub fn next_root(
+    table: &[u8],
+    ranks: &[u8],
+    names: &[u64],
+    sets: &[u64],
+    old: &[u8],
+    words: &[u8],
+) -> PlanState
+    requires { ⌜ Scene (now table) (now old) (now words) (now ranks) (now names) (now sets) ⌝ }
+    ensures { λ r. ⌜ ((choice : ℕ → ℕ) (new : List ℕ) → r ≡ newState (now (table .entry)) (now (old .entry)) (now (words .entry)) choice new 0) ⌝ }
+{
+    let o = Orders {
+        considers: true,
+        activates: true,
+        retries: false,
+    };
+    next_under(table, names, sets, old, words, 0, PlanState::Activated, o)
+}
+
+// The new state of plan p, a child, where `new` has the new states of the plans before it; `chosen` is the rank of the child that its
+// parent would activate if it is any-order.
+pub fn next_child(
+    table: &[u8],
+    ranks: &[u8],
+    names: &[u64],
+    sets: &[u64],
+    old: &[u8],
+    words: &[u8],
+    new: &[u8],
+    p: usize,
+    chosen: u32,
+) -> PlanState
+    requires scene { ⌜ Scene (now table) (now old) (now words) (now ranks) (now names) (now sets) ⌝ }
+    requires plan { ⌜ (0 < p) × (p < planCount (now table)) × (p ≤ length (now new)) ⌝ }
+    ensures { λ r. ⌜ ((choice : ℕ → ℕ) → eqb (Table·rank (now (table .entry)) p) chosen ≡ eqb p (choice (parent (now (table .entry)) p)) → r ≡ newState (now (table .entry)) (now (old .entry)) (now (words .entry)) choice (now (new .entry)) p) ⌝ }
+{
+    let q = parent_at(table, p);
+    let before = PlanState::from_byte(old[q]);
+    let after = PlanState::from_byte(new[q]);
+    let o = orders_if(
+        before,
+        after,
+        entry_at(table, q),
+        sets,
+        q,
+        wide(ranks[p]),
+        chosen,
+    );
+    next_under(table, names, sets, old, words, p, after, o)
+}
+
+// A byte as a rank: named, so that a reader of it has its bound.
+fn wide(x: u8) -> u32
+    ensures { λ r. ⌜ r ≡ x ⌝ }
+{
+    x as u32
+}
+
+// One step from `old` into `new`, under the picks of the words.
+fn advance(
+    table: &[u8],
+    n: usize,
+    ranks: &[u8],
+    names: &[u64],
+    sets: &[u64],
+    old: &[u8],
+    words: &[u8],
+    new: &mut [u8],
+)
+    requires scene { ⌜ Scene (now table) (now old) (now words) (now ranks) (now names) (now sets) ⌝ }
+    requires room { ⌜ (n ≡ planCount (now table)) × (n ≤ length (now new)) ⌝ }
+    ensures { λ _. ⌜ take n (now (new .exit)) ≡ step (now (table .entry)) (now (old .entry)) (now (words .entry)) ⌝ }
+{
+    new[0] = next_root(table, ranks, names, sets, old, words).to_byte();
+    for p in 1..n {
+        let q = parent_at(table, p);
+        let chosen = chosen_rank(sets, q, pick_of(word_at(words, q)));
+        new[p] = next_child(table, ranks, names, sets, old, words, new, p, chosen).to_byte();
+    }
+}
+
+fn is_inactive(state: PlanState) -> bool
+    ensures { λ r. ⌜ r ≡ is Inactive state ⌝ }
+{
+    state.to_byte() == PlanState::INACTIVE
+}
+
+fn is_executing(state: PlanState) -> bool
+    ensures { λ r. ⌜ r ≡ inExecution state ⌝ }
+{
+    (state.to_byte() == PlanState::ACTIVATED) | (state.to_byte() == PlanState::SUSPENDED)
+}
+
+// Whether a sequential plan, with or without retry-aborted, is done with a child.
+fn is_done(again: bool, state: PlanState) -> bool
+    ensures { λ r. ⌜ r ≡ done again state ⌝ }
+{
+    let b = state.to_byte();
+    (b == PlanState::COMPLETED) | (b == PlanState::REJECTED) | ((b == PlanState::ABORTED) & !again)
+}
+
+// Whether a child's state suits its parent's.
+fn child_suits(parent: PlanState, child: PlanState) -> bool
+    ensures { λ r. ⌜ r ≡ suits parent child ⌝ }
+{
+    match parent {
+        PlanState::Inactive => is_inactive(child),
+        PlanState::Considered => is_inactive(child),
+        PlanState::Possible => is_inactive(child),
+        PlanState::Ready => is_inactive(child),
+        PlanState::Activated => true,
+        PlanState::Suspended => !is_activated(child),
+        PlanState::Completed => is_inactive(child) | child.is_ended(),
+        PlanState::Aborted => is_inactive(child) | child.is_ended(),
+        PlanState::Rejected => is_inactive(child),
+    }
+}
+
+// Whether a child in a state breaks the rule of its parent's body, where some lower child is in execution or is not done.
+fn breaks_by(body: Body, child: PlanState, running: bool, undone: bool) -> bool
+    ensures { λ r. ⌜ r ≡ breaksBy body child running undone ⌝ }
+{
+    match body {
+        Body::Leaf => false,
+        Body::Sequential => !is_inactive(child) & undone,
+        Body::Parallel => false,
+        Body::AnyOrder => is_executing(child) & running,
+        Body::Unordered => false,
+    }
+}
+
+// 1 where a test has held, once it has.
+fn marked(mark: u8, test: bool) -> u8
+    ensures { λ r. ⌜ eqb r 1 ≡ (eqb mark 1 || test) ⌝ }
+{
+    if test { 1 } else { mark }
+}
+
+// Check 11: the lowest plan that breaks a rule together with lower plans, or n. One pass: what counts of the lower children is marked
+// at their parent.
+fn lowest_bad_state(table: &[u8], n: usize, states: &[u8]) -> usize
+    requires { ⌜ Rooted (now table) n × (n ≡ planCount (now table)) × (0 < n) × (n ≤ length (now states)) ⌝ }
+    ensures { λ r. ⌜ Lowest (badState (now (table .entry)) (now (states .entry))) n r ⌝ }
+{
+    let mut running = [0u8; 256];
+    let mut undone = [0u8; 256];
+    if PlanState::REJECTED < states[0] {
+        return 0;
+    }
+    let mut p = 1;
+    while p < n {
+        if PlanState::REJECTED < states[p] {
+            return p;
+        }
+        let q = parent_at(table, p);
+        let e = entry_at(table, q);
+        let child = PlanState::from_byte(states[p]);
+        let fits = child_suits(PlanState::from_byte(states[q]), child);
+        if !fits | breaks_by(e.body_kind(), child, running[q] == 1, undone[q] == 1) {
+            return p;
+        }
+        running[q] = marked(running[q], is_executing(child));
+        undone[q] = marked(undone[q], !is_done(e.retries_aborted(), child));
+        p += 1;
+    }
+    p
+}
+
+// Whether a word has a bit that no word may have.
+pub fn other_bits(x: u32) -> bool
+    ensures { λ r. ⌜ r ≡ otherBits x ⌝ }
+{
+    ((x >> 20) % 16 != 0) | ((x >> 30) % 4 != 0)
+}
+
+// Whether a word says that a filter or a setup is satisfied but not satisfiable.
+fn satisfied_only(c: Condition, x: u32) -> bool
+    ensures { λ r. ⌜ r ≡ satisfiedOnly c x ⌝ }
+{
+    let k = c.bit();
+    is_set(x, k) & !is_set(x, 6 + k)
+}
+
+pub fn word_contradicts(x: u32) -> bool
+    ensures { λ r. ⌜ r ≡ contradicts x ⌝ }
+{
+    satisfied_only(Condition::Filter, x) | satisfied_only(Condition::Setup, x)
+}
+
+// Whether a plan with so many children may make a pick.
+fn may_pick(body: Body, count: u8, pick: u32) -> bool
+    ensures { λ r. ⌜ r ≡ pickAllowed body count pick ⌝ }
+{
+    match body {
+        Body::Leaf => pick == 0,
+        Body::Sequential => pick == 0,
+        Body::Parallel => pick == 0,
+        Body::AnyOrder => pick < wide(count),
+        Body::Unordered => pick == 0,
+    }
+}
+
+// Check 12 of one word, by its plan's entry and number of children.
+fn wrong_word(e: PlanEntry, count: u8, x: u32) -> bool
+    ensures { λ r. ⌜ r ≡ wrongWord e count x ⌝ }
+{
+    other_bits(x) | !may_pick(e.body_kind(), count, pick_of(x)) | word_contradicts(x)
+}
+
+// Check 12: the lowest plan with a wrong word, or n.
+fn lowest_bad_word(table: &[u8], n: usize, counts: &[u8], words: &[u8]) -> usize
+    requires { ⌜ Counted (now table) n (now counts) (now words) ⌝ }
+    ensures { λ r. ⌜ Lowest (badWord (now (table .entry)) (now (words .entry))) n r ⌝ }
+{
+    let mut p = 0;
+    while p < n {
+        if wrong_word(entry_at(table, p), counts[p], word_at(words, p)) {
+            return p;
+        }
+        p += 1;
+    }
+    p
+}
+
+// Checks 10 to 12 of a call whose table passes.
+fn check_lent(table: &[u8], counts: &[u8], states: &[u8], words: &[u8]) -> Outcome
+    requires { ⌜ Tabled (now table) (now counts) ⌝ }
+    ensures { λ r. ⌜ r ≡ lentCheck (now (table .entry)) (now (states .entry)) (now (words .entry)) ⌝ }
+{
+    let n = u16_at(table, 5) as usize;
+    if (states.len() != n) | (words.len() != 4 * n) {
+        return Outcome::Refused(Refusal::Lengths);
+    }
+    let state = lowest_bad_state(table, n, states);
+    if state < n {
+        return Outcome::Refused(Refusal::State { plan: state as u16 });
+    }
+    let word = lowest_bad_word(table, n, counts, words);
+    if word < n {
+        return Outcome::Refused(Refusal::Word {
+            step: 0,
+            plan: word as u16,
+        });
+    }
+    Outcome::Done
+}
+
+// Checks 1 to 12 of a call. Where they pass, the buffers hold the table's facts.
+fn check_call(
+    table: &[u8],
+    states: &[u8],
+    words: &[u8],
+    ranks: &mut [u8],
+    counts: &mut [u8],
+    names: &mut [u64],
+) -> Outcome
+    requires { ⌜ (256 ≤ length (now ranks)) × (256 ≤ length (now counts)) × (256 ≤ length (now names)) ⌝ }
+    ensures { λ r. ⌜ Called (now (table .entry)) (now (states .entry)) (now (words .entry)) (now (ranks .exit)) (now (counts .exit)) (now (names .exit)) r ⌝ }
+{
+    match read_table(table, ranks, counts, names) {
+        Outcome::Refused(why) => Outcome::Refused(why),
+        Outcome::Done => check_lent(table, counts, states, words),
+    }
+}
+
+// The new states after one step, in `new`; `sets` is work space.
+fn look_ahead(
+    table: &[u8],
+    ranks: &[u8],
+    names: &[u64],
+    states: &[u8],
+    words: &[u8],
+    sets: &mut [u64],
+    new: &mut [u8],
+)
+    requires ready { ⌜ Ready (now table) (now states) (now words) (now ranks) (now names) ⌝ }
+    requires room { ⌜ (2304 ≤ length (now sets)) × (256 ≤ length (now new)) ⌝ }
+    ensures { λ _. ⌜ take (planCount (now (table .entry))) (now (new .exit)) ≡ step (now (table .entry)) (now (states .entry)) (now (words .entry)) ⌝ }
+{
+    let n = u16_at(table, 5) as usize;
+    survey(table, n, ranks, states, sets);
+    advance(table, n, ranks, names, sets, states, words, new);
+}
+
+// Copies the new states over the states.
+fn take_over(new: &[u8], states: &mut [u8])
+    requires { ⌜ length (now states) ≤ length (now new) ⌝ }
+    ensures { λ _. ⌜ now (states .exit) ≡ take (length (now (states .entry))) (now (new .entry)) ⌝ }
+{
+    let n = states.len();
+    for p in 0..n {
+        states[p] = new[p];
+    }
+}
+
+// Whether the new states are the states.
+fn unchanged(new: &[u8], states: &[u8]) -> bool
+    requires { ⌜ length (now states) ≤ length (now new) ⌝ }
+    ensures { λ r. ⌜ r ≡ same (take (length (now (states .entry))) (now (new .entry))) (now (states .entry)) ⌝ }
+{
+    let n = states.len();
+    let mut p = 0;
+    while p < n {
+        if new[p] != states[p] {
+            return false;
+        }
+        p += 1;
+    }
+    true
+}
+
+// One synchronous step over the states, or a refusal that changes none of them.
+pub fn step(table: &[u8], states: &mut [u8], words: &[u8]) -> Outcome
+    ensures answer { λ r. ⌜ r ≡ stepAnswer (now (table .entry)) (now (states .entry)) (now (words .entry)) ⌝ }
+    ensures left { λ _. ⌜ now (states .exit) ≡ stepStates (now (table .entry)) (now (states .entry)) (now (words .entry)) ⌝ }
+{
+    let mut ranks = [0u8; 256];
+    let mut counts = [0u8; 256];
+    let mut names = [0u64; 256];
+    match check_call(table, states, words, &mut ranks, &mut counts, &mut names) {
+        Outcome::Refused(why) => Outcome::Refused(why),
+        Outcome::Done => {
+            step_over(table, &ranks, &names, states, words);
+            Outcome::Done
+        }
+    }
+}
+
+// One step over states that have passed the checks.
+fn step_over(table: &[u8], ranks: &[u8], names: &[u64], states: &mut [u8], words: &[u8])
+    requires { ⌜ Ready (now table) (now states) (now words) (now ranks) (now names) ⌝ }
+    ensures { λ _. ⌜ now (states .exit) ≡ step (now (table .entry)) (now (states .entry)) (now (words .entry)) ⌝ }
+{
+    let mut sets = [0u64; 2304];
+    let mut new = [0u8; 256];
+    look_ahead(table, ranks, names, states, words, &mut sets, &mut new);
+    take_over(&new, states);
+}
