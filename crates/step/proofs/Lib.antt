@@ -5,3 +5,4 @@ pub mod Calls
 pub mod Same
 pub mod Scenes
 pub mod HandedIn
+pub mod Rests

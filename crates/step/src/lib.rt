@@ -17,7 +17,8 @@ ghost use Rattle.children.specs.Sets.{setOf, Rooted};
 ghost use Rattle.table.specs.Lowest.{Lowest};
 ghost use Rattle.step.specs.HandedIn.{breaksBy};
 ghost use Rattle.rules.specs.Words.{pickOf, pickAllowed, otherBits, satisfiedOnly, contradicts};
-ghost use Rattle.rules.specs.Answers.{badWord, stepAnswer, stepStates};
+ghost use Rattle.rules.specs.Rest.{leastRest, statesAt};
+ghost use Rattle.rules.specs.Answers.{badWord, stepAnswer, stepStates, restAnswer, runAnswer, runStates};
 ghost use Rattle.step.specs.Calls.{wrongWord, Counted, lentCheck, Tabled, Called, Ready};
 ghost use Rattle.rules.specs.declared.PlanState.the-variants.{Inactive, Activated};
 ghost use Rattle.step.specs.Brood.{Brood, Child, Own};
@@ -30,6 +31,7 @@ use rules::Outcome;
 use rules::PlanEntry;
 use rules::PlanState;
 use rules::Refusal;
+use rules::Rest;
 use rules::entry_at;
 use rules::is_set;
 use rules::parent_at;
@@ -695,4 +697,66 @@ fn step_over(table: &[u8], ranks: &[u8], names: &[u64], states: &mut [u8], words
     let mut new = [0u8; 256];
     look_ahead(table, ranks, names, states, words, &mut sets, &mut new);
     take_over(&new, states);
+}
+
+// The new states after one step, in `new`, and whether they are the states.
+fn is_settled(
+    table: &[u8],
+    ranks: &[u8],
+    names: &[u64],
+    states: &[u8],
+    words: &[u8],
+    sets: &mut [u64],
+    new: &mut [u8],
+) -> bool
+    requires ready { ⌜ Ready (now table) (now states) (now words) (now ranks) (now names) ⌝ }
+    requires room { ⌜ (2304 ≤ length (now sets)) × (256 ≤ length (now new)) ⌝ }
+    ensures next { λ _. ⌜ take (planCount (now (table .entry))) (now (new .exit)) ≡ step (now (table .entry)) (now (states .entry)) (now (words .entry)) ⌝ }
+    ensures same { λ r. ⌜ r ≡ same (step (now (table .entry)) (now (states .entry)) (now (words .entry))) (now (states .entry)) ⌝ }
+{
+    look_ahead(table, ranks, names, states, words, sets, new);
+    unchanged(new, states)
+}
+
+// Steps over states that have passed the checks, until one more step changes nothing or the budget is used.
+fn settle(
+    table: &[u8],
+    ranks: &[u8],
+    names: &[u64],
+    states: &mut [u8],
+    words: &[u8],
+    budget: u16,
+) -> Rest
+    requires { ⌜ Ready (now table) (now states) (now words) (now ranks) (now names) ⌝ }
+    ensures answer { λ r. ⌜ r ≡ restAnswer (now (table .entry)) (leastRest (now (table .entry)) (now (states .entry)) (now (words .entry)) budget) ⌝ }
+    ensures left { λ _. ⌜ now (states .exit) ≡ statesAt (now (table .entry)) (now (states .entry)) (now (words .entry)) budget (leastRest (now (table .entry)) (now (states .entry)) (now (words .entry)) budget) ⌝ }
+{
+    let mut sets = [0u64; 2304];
+    let mut new = [0u8; 256];
+    let mut k = 0u16;
+    while k < budget {
+        if is_settled(table, ranks, names, states, words, &mut sets, &mut new) {
+            return Rest::Rested(k);
+        }
+        take_over(&new, states);
+        k += 1;
+    }
+    if is_settled(table, ranks, names, states, words, &mut sets, &mut new) {
+        return Rest::Rested(k);
+    }
+    Rest::Moving
+}
+
+// Steps under held words until one more step changes nothing, or until the budget is used; or a refusal that changes no state.
+pub fn rest(table: &[u8], states: &mut [u8], words: &[u8], budget: u16) -> Rest
+    ensures answer { λ r. ⌜ r ≡ runAnswer (now (table .entry)) (now (states .entry)) (now (words .entry)) budget ⌝ }
+    ensures left { λ _. ⌜ now (states .exit) ≡ runStates (now (table .entry)) (now (states .entry)) (now (words .entry)) budget ⌝ }
+{
+    let mut ranks = [0u8; 256];
+    let mut counts = [0u8; 256];
+    let mut names = [0u64; 256];
+    match check_call(table, states, words, &mut ranks, &mut counts, &mut names) {
+        Outcome::Refused(why) => Rest::Refused(why),
+        Outcome::Done => settle(table, &ranks, &names, states, words, budget),
+    }
 }

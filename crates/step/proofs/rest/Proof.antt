@@ -1,0 +1,40 @@
+-- `rest` meets its contract: the checks, and where they pass the run. Assumes nothing.
+use mathlib.Core.Path.{_≡_, sym, _∙_}
+use native.Mathlib.Omega.{arith}
+use borrow.Author.Needs.{needs}
+use Rattle.step.proofs.Calls.{ready}
+use Rattle.step.proofs.Rests.{run-refused, run-done}
+use Rattle.step.proofs.rest.Statement.{statement}
+use Rattle.step.proofs.rest.Tie as tie
+
+settle-requires : tie.Need-settle-requires
+settle-requires c κs =
+    let called = c .before .before .before .before .before .before .before .before .check-call .ensures in
+    let told = c .before .before .before .enum-told .given .1 in
+    ready _ _ _ _ _ _ (sym (called .is) ∙ told) (called .facts told) (omega arith) (omega arith)
+
+returns : tie.Need-returns
+returns c = run-refused _ _ _ _ _ (sym (c .before .before .before .before .before .before .check-call .ensures .is) ∙ c .before .why .given .1)
+
+returns-2 : tie.Need-returns-2
+returns-2 c =
+    let settled = c .before .before .settle .ensures in
+    run-done _ _ _ _ _ _ (sym (c .before .before .before .before .before .before .before .before .before .before .before .check-call .ensures .is) ∙ c .before .before .before .before .before .before .enum-told .given .1) (settled .0) (settled .1)
+
+pub rest-spec : {M : Type 1} → statement M
+rest-spec =
+    tie.close
+    (tie.spec
+    (λ c. search needs)
+    (λ c. search needs)
+    (λ c. search needs)
+    (λ c κs. search needs)
+    (λ c. search needs)
+    (λ c. search needs)
+    (λ c. search needs)
+    (λ c. search needs)
+    settle-requires
+    (λ c. search needs)
+    returns
+    (λ c. search needs)
+    returns-2)
