@@ -243,7 +243,7 @@ fn may_activate(sets: &[u64], q: usize, again: bool) -> bool
 }
 
 // What plan q, whose entry is e, orders its child of a rank; `chosen` is the rank that an any-order plan would activate.
-pub fn orders_to(e: PlanEntry, sets: &[u64], q: usize, rank: u32, chosen: u32) -> Orders
+fn orders_to(e: PlanEntry, sets: &[u64], q: usize, rank: u32, chosen: u32) -> Orders
     requires { ⌜ (q < 256) × (q * 9 + 9 ≤ length (now sets)) ⌝ }
     ensures { λ r. ⌜ ((t s : List ℕ) (choice : ℕ → ℕ) (p : ℕ) → Brood t s q (now (sets .entry)) → Child t q p → e ≡ entry t q → rank ≡ Table·rank t p → eqb rank chosen ≡ eqb p (choice q) → r ≡ orders t s choice q p) ⌝ }
 {
@@ -254,7 +254,7 @@ pub fn orders_to(e: PlanEntry, sets: &[u64], q: usize, rank: u32, chosen: u32) -
 }
 
 // Whether too many children of plan p, whose entry is e, are lost.
-pub fn too_many_lost(e: PlanEntry, names: u64, sets: &[u64], p: usize) -> bool
+fn too_many_lost(e: PlanEntry, names: u64, sets: &[u64], p: usize) -> bool
     requires { ⌜ (p < 256) × (p * 9 + 9 ≤ length (now sets)) ⌝ }
     ensures { λ r. ⌜ ((t s : List ℕ) → Brood t s p (now (sets .entry)) → e ≡ entry t p → names ≡ setOf t p (λ c. named (entry t c)) → r ≡ tooManyLost t s p) ⌝ }
 {
@@ -263,7 +263,7 @@ pub fn too_many_lost(e: PlanEntry, names: u64, sets: &[u64], p: usize) -> bool
 }
 
 // Whether the children of plan p, whose entry is e, let it complete.
-pub fn children_complete(e: PlanEntry, names: u64, sets: &[u64], p: usize) -> bool
+fn children_complete(e: PlanEntry, names: u64, sets: &[u64], p: usize) -> bool
     requires { ⌜ (p < 256) × (p * 9 + 9 ≤ length (now sets)) ⌝ }
     ensures { λ r. ⌜ ((t s : List ℕ) → Brood t s p (now (sets .entry)) → e ≡ entry t p → names ≡ setOf t p (λ c. named (entry t c)) → r ≡ childrenComplete t s p) ⌝ }
 {
@@ -287,7 +287,7 @@ fn all_ended(sets: &[u64], p: usize) -> bool
 
 // The rank of the child that an any-order plan q activates under a pick: the Ready child of that rank, else the lowest Ready one; with
 // none, a number that no child has as its rank.
-pub fn chosen_rank(sets: &[u64], q: usize, pick: u32) -> u32
+fn chosen_rank(sets: &[u64], q: usize, pick: u32) -> u32
     requires { ⌜ (q < 256) × (q * 9 + 9 ≤ length (now sets)) × (pick < 64) ⌝ }
     ensures { λ r. ⌜ ((t s : List ℕ) (picks : ℕ → ℕ) (p : ℕ) → Brood t s q (now (sets .entry)) → Child t q p → picks q ≡ pick → eqb (Table·rank t p) r ≡ eqb p (Step·chosen t s picks q)) ⌝ }
 {
