@@ -1,6 +1,8 @@
 // Runs trials and prints each answer. Standard input has a line for each trial, its fields parted by single spaces:
-//   table TABLE                  checks a table
-//   subtree TABLE STATES PLAN    asks for a sub tree
+//   table TABLE                       checks a table
+//   subtree TABLE STATES PLAN         asks for a sub tree
+//   move TABLE STATES WORDS           takes one step, and shows the states that it leaves
+//   rest TABLE STATES WORDS BUDGET    steps until rest, and shows the states that it leaves
 // with bytes in hexadecimal (see `bytes_of`) and numbers in decimal. A line that begins with `#` is printed as it is, and an empty one as well.
 // Assumes what `io` does of read and write, and that the input is at most 65,536 bytes.
 ghost use Prim.Native.Nat.{_≤_, _<_};
@@ -8,7 +10,9 @@ ghost use lib.ListN.{length};
 ghost use Rattle.io.specs.Counts.{Counts};
 use libc::STDIN_FILENO;
 use libc::STDOUT_FILENO;
+use rules::Outcome;
 use rules::Refusal;
+use rules::Rest;
 use rules::Verdict;
 
 fn main() {
@@ -49,20 +53,26 @@ fn run_line(line: &[u8]) {
     }
     match line[0] {
         b'#' => {
-            io::write_all(STDOUT_FILENO, line);
+            print(line);
             end_line();
         }
         b't' => run_table(line),
         b's' => run_sub_tree(line),
+        b'm' => run_call(line, false),
+        b'r' => run_call(line, true),
         _ => {
-            io::write_all(STDOUT_FILENO, b"no such trial");
+            print(b"no such trial");
             end_line();
         }
     }
 }
 
+fn print(text: &[u8]) {
+    io::write_all(STDOUT_FILENO, text);
+}
+
 fn end_line() {
-    io::write_all(STDOUT_FILENO, b"\n");
+    print(b"\n");
 }
 
 // Field k of a line, counted from 0, or nothing.
@@ -180,6 +190,33 @@ fn run_sub_tree(line: &[u8]) {
     print_bytes(table::sub_tree(&space[..n], &states[..m], number_of(field(line, 3))));
 }
 
+// Lends a table, states and words to the step, or to the run to rest.
+fn run_call(line: &[u8], rests: bool) {
+    let mut space = io::buffer();
+    let n = bytes_of(field(line, 1), &mut space);
+    let mut states = io::buffer();
+    let m = bytes_of(field(line, 2), &mut states);
+    let mut words = io::buffer();
+    let k = bytes_of(field(line, 3), &mut words);
+    let budget = number_of(field(line, 4)) as u16;
+    call(&space[..n], &mut states[..m], &words[..k], budget, rests);
+}
+
+fn call(table: &[u8], states: &mut [u8], words: &[u8], budget: u16, rests: bool) {
+    if rests {
+        print_rest(step::rest(table, states, words, budget));
+        print_left(states);
+        return;
+    }
+    print_outcome(step::step(table, states, words));
+    print_left(states);
+}
+
+fn print_left(states: &[u8]) {
+    print(b" ");
+    print_bytes(states);
+}
+
 fn print_bytes(s: &[u8]) {
     let mut i = 0;
     while i < s.len() {
@@ -194,26 +231,43 @@ fn wide(x: u8) -> u64 {
 }
 
 fn print_number(x: u64) {
-    io::write_all(STDOUT_FILENO, b" ");
+    print(b" ");
     io::print_decimal(STDOUT_FILENO, x);
 }
 
 fn print_verdict(v: Verdict) {
     match v {
         Verdict::Accepted(n) => {
-            io::write_all(STDOUT_FILENO, b"accepted");
+            print(b"accepted");
             print_number(n as u64);
-            end_line();
         }
         Verdict::Refused(why) => print_refusal(why),
+    }
+    end_line();
+}
+
+fn print_outcome(o: Outcome) {
+    match o {
+        Outcome::Done => print(b"done"),
+        Outcome::Refused(why) => print_refusal(why),
+    }
+}
+
+fn print_rest(r: Rest) {
+    match r {
+        Rest::Rested(k) => {
+            print(b"rested");
+            print_number(k as u64);
+        }
+        Rest::Moving => print(b"moving"),
+        Rest::Refused(why) => print_refusal(why),
     }
 }
 
 fn print_refusal(why: Refusal) {
     let place = why.place();
-    io::write_all(STDOUT_FILENO, b"refused");
+    print(b"refused");
     print_number(place.number as u64);
     print_number(place.step as u64);
     print_number(place.plan as u64);
-    end_line();
 }
