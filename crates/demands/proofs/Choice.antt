@@ -123,7 +123,7 @@ module _ (t s shown : List ℕ) (q : ℕ) where
   abbrev ready : Bool
   ready = some (isReady s) (children t q)
 
-  activated-found : T ready → ReadyChild t s q (activatedChild t s shown q)
+  pub activated-found : T (some (isReady s) (children t q)) → ReadyChild t s q (activatedChild t s shown q)
   unfolding activatedChild
   activated-found = target-found (isReady s) (λ c. is Activated (stateAt shown c)) (children t q)
 

@@ -22,7 +22,7 @@ use Rattle.step.specs.Calls.{Ready}
 use Rattle.step.proofs.Broods.{code-lt}
 
 -- the code of the state that a code stands for
-code-of : (b : ℕ) → b < 9 → code (stateOf b) ≡ b
+pub code-of : (b : ℕ) → b < 9 → code (stateOf b) ≡ b
 code-of zero l = refl
 code-of (suc zero) l = refl
 code-of (suc (suc zero)) l = refl

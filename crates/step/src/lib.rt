@@ -305,7 +305,7 @@ fn is_activated(state: PlanState) -> bool
 }
 
 // The pick of an input word.
-fn pick_of(x: u32) -> u32
+pub fn pick_of(x: u32) -> u32
     ensures is { λ r. ⌜ r ≡ pickOf x ⌝ }
     ensures small { λ r. ⌜ r < 64 ⌝ }
 {

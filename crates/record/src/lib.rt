@@ -1,0 +1,161 @@
+// Checks a treatment record: 1 to 9 of its table, 13, 14, then step by step 12 before 15 of document 01.
+// A step costs O(n) for n plans; nothing is allocated or copied. Assumes nothing.
+ghost use mathlib.Core.Path.{_≡_};
+ghost use mathlib.Core.List.{List};
+ghost use Prim.Native.Nat.{ℕ, _+_, _*_, _<_, _≤_};
+ghost use lib.Dec.{eqb};
+ghost use lib.ListN.{length, take, replicate};
+ghost use Rattle.rules.specs.Bytes.{byteAt};
+ghost use Rattle.rules.specs.States.{code};
+ghost use Rattle.rules.specs.Table.{planCount};
+ghost use Rattle.rules.specs.Step.{newState};
+ghost use Rattle.rules.specs.Record.{stepCount, wordsOf, statesOf, statesBefore};
+ghost use Rattle.rules.specs.Answers.{badRecordWord, wrongHeader, Judged};
+ghost use Rattle.children.specs.Sets.{Rooted, Narrow};
+ghost use Rattle.table.specs.Lowest.{Lowest};
+ghost use Rattle.step.specs.Scene.{Scene};
+ghost use Rattle.demands.specs.Witness.{activatedChild};
+ghost use Rattle.rules.specs.declared.PlanState.the-variants.{Inactive};
+ghost use Rattle.record.specs.Steps.{Lies, noRank, Chosen, Sound};
+ghost use Rattle.record.specs.Steps.{preferred as Steps·preferred};
+use children::survey;
+use rules::Outcome;
+use rules::PlanState;
+use rules::Refusal;
+use rules::Verdict;
+use rules::parent_at;
+use rules::u16_at;
+use rules::word_at;
+use step::next_child;
+use step::next_root;
+use step::other_bits;
+use step::pick_of;
+use step::word_contradicts;
+use table::has_mark;
+use table::read_table;
+
+// The words part of step i.
+fn words_of(record: &[u8], n: usize, i: usize) -> &[u8]
+    requires { ⌜ Lies (now «record») n i ⌝ }
+    ensures { λ r. ⌜ ((t : List ℕ) → n ≡ planCount t → now r ≡ wordsOf t (now («record» .entry)) i) ⌝ }
+{
+    let start = 8 + i * (5 * n);
+    let end = start + 4 * n;
+    &record[start..end]
+}
+
+// The states part of step i.
+fn states_of(record: &[u8], n: usize, i: usize) -> &[u8]
+    requires { ⌜ Lies (now «record») n i ⌝ }
+    ensures { λ r. ⌜ ((t : List ℕ) → n ≡ planCount t → now r ≡ statesOf t (now («record» .entry)) i) ⌝ }
+{
+    let start = 8 + i * (5 * n) + 4 * n;
+    let end = start + n;
+    &record[start..end]
+}
+
+// The states before step i: those that the step before shows; before the first, the idle ones.
+fn states_before<'a>(idle: &'a [u8], record: &'a [u8], n: usize, i: usize) -> &'a [u8]
+    requires { ⌜ (n ≤ length (now idle)) × (take n (now idle) ≡ replicate n (code Inactive)) × (8 + i * (5 * n) ≤ length (now «record»)) ⌝ }
+    ensures { λ r. ⌜ ((t : List ℕ) → n ≡ planCount t → now r ≡ statesBefore t (now («record» .entry)) i) ⌝ }
+{
+    if i == 0 {
+        return &idle[0..n];
+    }
+    states_of(record, n, i - 1)
+}
+
+// Check 12 of the word of plan p.
+fn wrong_word(words: &[u8], p: usize) -> bool
+    requires { ⌜ 4 * p + 4 ≤ length (now words) ⌝ }
+    ensures { λ r. ⌜ ((t : List ℕ) → r ≡ badRecordWord t (now (words .entry)) p) ⌝ }
+{
+    let x = word_at(words, p);
+    other_bits(x) | (pick_of(x) != 0) | word_contradicts(x)
+}
+
+// Check 12: the lowest plan with a wrong word, or n.
+fn lowest_wrong_word(words: &[u8], n: usize) -> usize
+    requires { ⌜ 4 * n ≤ length (now words) ⌝ }
+    ensures { λ r. ⌜ ((t : List ℕ) → Lowest (badRecordWord t (now (words .entry))) n r) ⌝ }
+{
+    let mut p = 0;
+    while p < n {
+        if wrong_word(words, p) {
+            return p;
+        }
+        p += 1;
+    }
+    p
+}
+
+// The rank that a plan would have activated, where one more of its children is looked at, from the highest down: the lowest Ready one
+// that is shown Activated, else the highest Ready one.
+fn preferred(ready: bool, activated: bool, before: u8, rank: u8) -> u8
+    ensures { λ r. ⌜ r ≡ Steps·preferred ready activated before rank ⌝ }
+{
+    if ready & (activated | (before == 64)) {
+        rank
+    } else {
+        before
+    }
+}
+
+// For each plan the rank of the child that the states shown let it have activated, where `chosen` holds a rank that no child has.
+fn choose(table: &[u8], n: usize, ranks: &[u8], old: &[u8], shown: &[u8], chosen: &mut [u8])
+    requires table { ⌜ (n ≡ planCount (now table)) × Rooted (now table) n × Narrow (now table) n (now ranks) ⌝ }
+    requires room { ⌜ (n ≤ length (now ranks)) × (n ≤ length (now old)) × (n ≤ length (now shown)) × (n ≤ length (now chosen)) ⌝ }
+    requires empty { ⌜ ((q : ℕ) → q < n → byteAt (now chosen) q ≡ noRank) ⌝ }
+    ensures { λ _. ⌜ Chosen (now (table .entry)) (now (old .entry)) (now (shown .entry)) (now (chosen .exit)) ⌝ }
+{
+    let mut p = n;
+    while 1 < p {
+        p -= 1;
+        let q = parent_at(table, p);
+        let ready = old[p] == PlanState::READY;
+        let activated = shown[p] == PlanState::ACTIVATED;
+        chosen[q] = preferred(ready, activated, chosen[q], ranks[p]);
+    }
+}
+
+// The new state of plan p in a step, where the plans before it have the states shown, and any-order plans activate the child that
+// these let them have activated.
+fn next_shown(
+    table: &[u8],
+    ranks: &[u8],
+    names: &[u64],
+    sets: &[u64],
+    chosen: &[u8],
+    old: &[u8],
+    words: &[u8],
+    shown: &[u8],
+    p: usize,
+) -> PlanState
+    requires scene { ⌜ Scene (now table) (now old) (now words) (now ranks) (now names) (now sets) ⌝ }
+    requires chosen { ⌜ Chosen (now table) (now old) (now shown) (now chosen) ⌝ }
+    requires room { ⌜ (p < planCount (now table)) × (planCount (now table) ≤ length (now shown)) × (256 ≤ length (now chosen)) ⌝ }
+    ensures { λ r. ⌜ r ≡ newState (now (table .entry)) (now (old .entry)) (now (words .entry)) (activatedChild (now (table .entry)) (now (old .entry)) (now (shown .entry))) (now (shown .entry)) p ⌝ }
+{
+    if p == 0 {
+        return next_root(table, ranks, names, sets, old, words);
+    }
+    let q = parent_at(table, p);
+    next_child(
+        table,
+        ranks,
+        names,
+        sets,
+        old,
+        words,
+        shown,
+        p,
+        wide(chosen[q]),
+    )
+}
+
+// A byte as a rank: named, so that a reader of it has its bound.
+fn wide(x: u8) -> u32
+    ensures { λ r. ⌜ r ≡ x ⌝ }
+{
+    x as u32
+}
