@@ -1,5 +1,5 @@
 -- Every step of an accepted record keeps demand 3's last rules. Assumes nothing.
-use Prim.Native.Nat.{ℕ, zero, suc, _+_, _*_, _≤_, _<_}
+use Prim.Native.Nat.{ℕ, zero, suc, _+_, _*_, _<_}
 use native.Mathlib.Omega.{arith}
 use mathlib.Core.Path.{_≡_, sym, _∙_}
 use mathlib.Core.List.{List}
@@ -33,19 +33,22 @@ module _ (t r : List ℕ) (i : ℕ) (e : ExplainedFirst t r i (planCount t)) whe
       ∙ sym (e .agrees)
       ∙ take-all n (stepUnder t (statesBefore t r i) (wordsOf t r i) (e .pick)) (omega arith)
 
-module _ (t r : List ℕ) (done : tableCheck t ≡ Done) (passes : (i : ℕ) → i < stepCount t r → StepPasses t r i) where
-  before-passes : (i : ℕ) → i ≤ stepCount t r → PassesStates t (statesBefore t r i)
-  before-passes zero l = start-passes t done
-  before-passes (suc i) l =
-      let e = passes i (omega arith) .states in
+module _ (t r : List ℕ) (done : tableCheck t ≡ Done) where
+  -- after steps that pass, the states may be handed in
+  pub before-passes : (i : ℕ) → ((j : ℕ) → j < i → StepPasses t r j) → PassesStates t (statesBefore t r i)
+  before-passes zero before = start-passes t done
+  before-passes (suc i) before =
+      let e = before i (omega arith) .states in
       rw (whole-step t r i e)
-      (step-passes t (statesBefore t r i) (wordsOf t r i) (e .pick) done (before-passes i (omega arith)))
+      (step-passes t (statesBefore t r i) (wordsOf t r i) (e .pick) done (before-passes i (λ j l. before j (omega arith))))
 
-  all-kept : (i : ℕ) → i < stepCount t r → RulesKept t (statesBefore t r i) (statesOf t r i)
-  all-kept i l =
+  all-kept :
+      ((i : ℕ) → i < stepCount t r → StepPasses t r i) → (i : ℕ) → i < stepCount t r
+      → RulesKept t (statesBefore t r i) (statesOf t r i)
+  all-kept passes i l =
       let e = passes i l .states in
       rw (whole-step t r i e)
-      (step-keeps t (statesBefore t r i) (wordsOf t r i) (e .pick) done (before-passes i (omega arith)))
+      (step-keeps t (statesBefore t r i) (wordsOf t r i) (e .pick) done (before-passes i (λ j h. passes j (omega arith))))
 
 pub accepted-keeps :
     (t r : List ℕ) (k : ℕ) → Judged t r (verdict.Accepted k) → (i : ℕ) → i < stepCount t r

@@ -34,6 +34,9 @@ use step::word_contradicts;
 use table::has_mark;
 use table::read_table;
 
+// A rank that no child has.
+const NO_RANK: u8 = 64;
+
 // The words part of step i.
 fn words_of(record: &[u8], n: usize, i: usize) -> &[u8]
     requires { ⌜ Lies (now «record») n i ⌝ }
@@ -94,7 +97,7 @@ fn lowest_wrong_word(words: &[u8], n: usize) -> usize
 fn preferred(ready: bool, activated: bool, before: u8, rank: u8) -> u8
     ensures { λ r. ⌜ r ≡ Steps·preferred ready activated before rank ⌝ }
 {
-    if ready & (activated | (before == 64)) {
+    if ready & (activated | (before == NO_RANK)) {
         rank
     } else {
         before
@@ -158,4 +161,58 @@ fn wide(x: u8) -> u32
     ensures { λ r. ⌜ r ≡ x ⌝ }
 {
     x as u32
+}
+
+// The steps of a record of good form, one after the other, and in each its plans: the first step with a wrong word or with a plan that
+// no picks explain together with the plans before it.
+fn check_steps(
+    table: &[u8],
+    n: usize,
+    ranks: &[u8],
+    names: &[u64],
+    record: &[u8],
+    steps: usize,
+) -> Verdict
+    requires sound { ⌜ Sound (now table) (now «record») (now ranks) (now names) ⌝ }
+    requires sizes { ⌜ (n ≡ planCount (now table)) × (steps ≡ stepCount (now table) (now «record»)) ⌝ }
+    ensures { λ r. ⌜ Judged (now (table .entry)) (now («record» .entry)) r ⌝ }
+{
+    let idle = [PlanState::INACTIVE; 256];
+    let mut sets = [0u64; 2304];
+    let mut bad_step = 0;
+    let mut bad_plan = 0;
+    let mut i = 0;
+    'search: while i < steps {
+        let words = words_of(record, n, i);
+        let wrong = lowest_wrong_word(words, n);
+        if wrong < n {
+            return Verdict::Refused(Refusal::Word {
+                step: (i + 1) as u16,
+                plan: wrong as u16,
+            });
+        }
+        let old = states_before(&idle, record, n, i);
+        let shown = states_of(record, n, i);
+        let mut chosen = [NO_RANK; 256];
+        survey(table, n, ranks, old, &mut sets);
+        choose(table, n, ranks, old, shown, &mut chosen);
+        let mut p = 0;
+        while p < n {
+            let next = next_shown(table, ranks, names, &sets, &chosen, old, words, shown, p);
+            if next.to_byte() != shown[p] {
+                bad_step = i + 1;
+                bad_plan = p;
+                break 'search;
+            }
+            p += 1;
+        }
+        i += 1;
+    }
+    if bad_step == 0 {
+        return Verdict::Accepted(steps as u16);
+    }
+    Verdict::Refused(Refusal::Unexplained {
+        step: bad_step as u16,
+        plan: bad_plan as u16,
+    })
 }

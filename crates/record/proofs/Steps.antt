@@ -1,0 +1,153 @@
+-- Laws of one step of a record: where it lies, what the plans' moves read in it, and what is judged when it stops the search. Assumes
+-- nothing.
+use Prim.Native.Nat.{ℕ, zero, suc, _+_, _*_, _-_, _/_, _%_, _≤_, _<_}
+use native.Mathlib.Omega.{arith}
+use native.Mathlib.Nat.{div-mul-le-self}
+use native.Mathlib.Numerals.{add-one}
+use mathlib.Core.Path.{_≡_, refl, sym, ap, _∙_}
+use mathlib.Core.Logic.{_↔_, _⊎_, inl, inr}
+use mathlib.Core.Bool.{false, not, _||_}
+use mathlib.Core.List.{List, _∷_}
+use lib.Dec.{eqb, ltb}
+use lib.ListN.{length, take, drop, replicate, length-drop}
+use lib.Seq.{length-take-le}
+use borrow.Author.Tests.{ltb-false}
+use Rattle.rules.specs.Bytes.{byteAt}
+use Rattle.rules.specs.States.{code}
+use Rattle.rules.specs.Table.{planCount}
+use Rattle.rules.specs.Step.{newState}
+use Rattle.rules.specs.Record.{stepSize, stepCount, wordsOf, statesOf, statesBefore, ExplainedFirst}
+use Rattle.rules.specs.Answers.{badRecordWord, wrongHeader, tableCheck, recordCheck, wordsCheck, StepPasses, Judged, badWords, unexplained, accepted}
+use Rattle.rules.specs.declared.Refusal.the-variants.{Word, Unexplained}
+use Rattle.rules.specs.declared.Outcome.the-variants.{Done, Refused}
+use Rattle.rules.specs.declared.Verdict.the-variants as verdict
+use Rattle.rules.proofs.Outcomes.{first-done, then-done, if-done, pass-at-last, stop-at-last}
+use Rattle.rules.proofs.Tree.{or-left, or-right, passes, tree}
+use Rattle.table.specs.Lowest.{Lowest}
+use Rattle.table.proofs.Reading.{found-at, found-none}
+use Rattle.step.specs.Calls.{Ready}
+use Rattle.demands.specs.Witness.{activatedChild}
+use Rattle.demands.proofs.Accepted.{table-done, before-passes}
+use Rattle.demands.proofs.Numbers.{last-or}
+use Rattle.demands.proofs.PlanByPlan.{explained-none, explained-fewer, explained-next}
+use Rattle.record.specs.Steps.{Lies, Sound}
+use Rattle.record.proofs.Parts.{room}
+
+-- A record of good form: a whole number of steps, at most 65,535 of them.
+module _ (t r : List ℕ) (done : recordCheck t r ≡ Done) where
+  header : wrongHeader t r ≡ false
+  unfolding recordCheck
+  header = if-done _ _ (first-done _ _ (then-done (tableCheck t) _ done))
+
+  long-enough : 8 ≤ length r
+  long-enough = ltb-false (length r) 8 (or-left _ _ (or-left _ _ (or-left _ _ (or-left _ _ header))))
+
+  pub few : stepCount t r ≤ 65535
+  unfolding recordCheck
+  few = ltb-false 65535 (stepCount t r) (or-right (not (eqb ((length r - 8) % stepSize t r) 0)) _ (if-done _ _ (then-done _ _ (then-done (tableCheck t) _ done))))
+
+  lies : (n steps i : ℕ) → n ≡ planCount t → steps ≡ stepCount t r → i < steps → Lies r n i
+  lies n steps i whole count inside =
+      let size : ℕ = stepSize t r in
+      let before : i < stepCount t r = rw count at inside in
+      rw whole (omega (arith, room i size (stepCount t r) before, div-mul-le-self (length r - 8) size, long-enough))
+
+-- the first k bytes of a buffer of zeros
+pub idle-part : (k m a : ℕ) → k ≤ m → take k (replicate m a) ≡ replicate k a
+idle-part zero m a l = refl
+idle-part (suc k) zero a l = absurd (omega arith)
+idle-part (suc k) (suc m) a l = ap (λ (z : List ℕ). a ∷ z) (idle-part k m a (omega arith))
+
+-- a part of a list that has it is as long as it says
+part-long : (r : List ℕ) (from long : ℕ) → from + long ≤ length r → length (take long (drop from r)) ≡ long
+part-long r from long l = length-take-le long (drop from r) (omega (arith, length-drop from r))
+
+-- Step i, where the steps before it pass; `old`, `words` and `shown` are its parts.
+module _ (t r ranks names : List ℕ) (sound : Sound t r ranks names) (n steps i : ℕ) (whole : n ≡ planCount t)
+    (count : steps ≡ stepCount t r) (inside : i < steps) where
+  pub there : Lies r n i
+  there = lies t r (sound .done) n steps i whole count inside
+
+  pub words-long : (words : List ℕ) → words ≡ wordsOf t r i → length words ≡ 4 * n
+  words-long words e =
+      rw (e, ← whole) (part-long r (8 + i * (5 * n)) (4 * n) (omega (arith, there)))
+
+  pub shown-long : (shown : List ℕ) → shown ≡ statesOf t r i → length shown ≡ n
+  shown-long shown e =
+      rw (e, ← whole) (part-long r (8 + i * (5 * n) + 4 * n) n (omega (arith, there)))
+
+  pub few-plans : n ≤ 256
+  few-plans = omega (arith, whole, tree t (passes t (table-done t r (sound .done))) .small)
+
+  pub step-fits : i + 1 < 65536
+  step-fits = omega (arith, few t r (sound .done), count, inside)
+
+  before-end : i < stepCount t r
+  before-end = rw count at inside
+
+  module _ (before : (j : ℕ) → j < i → StepPasses t r j) where
+    done : tableCheck t ≡ Done
+    done = table-done t r (sound .done)
+
+    pub ready : (old words : List ℕ) → old ≡ statesBefore t r i → words ≡ wordsOf t r i → Ready t old words ranks names
+    ready old words is-old is-words =
+        record {
+          done = done;
+          passes = rw is-old (before-passes t r done i before);
+          words = rw (← whole) (words-long words is-words);
+          ranks-room = sound .ranks-room;
+          names-room = sound .names-room;
+          ranked = sound .ranked;
+          collected = sound .collected;
+        }
+
+    -- check 12
+    module _ (words : List ℕ) (is-words : words ≡ wordsOf t r i) (p : ℕ) (lowest : Lowest (badRecordWord t words) n p) where
+      lowest-word : Lowest (badRecordWord t (wordsOf t r i)) n p
+      lowest-word = rw is-words at lowest
+
+      pub stops-at-word : p < n → Judged t r (verdict.Refused (Word (i + 1) p))
+      unfolding wordsCheck
+      stops-at-word l =
+          rw (add-one i)
+          (badWords i (sound .done) before-end before (stop-at-last _ _ p (found-at t n whole _ p lowest-word l)))
+
+      pub words-pass : n ≤ p → wordsCheck t r i ≡ Done
+      unfolding wordsCheck
+      words-pass l = pass-at-last _ _ (found-none t n whole _ p lowest-word l)
+
+    -- check 15: plan p, where some picks explain the plans before it
+    module _ (old words shown : List ℕ) (is-old : old ≡ statesBefore t r i) (is-words : words ≡ wordsOf t r i)
+        (is-shown : shown ≡ statesOf t r i) (p b : ℕ) (within : p < n)
+        (moves : b ≡ code (newState t old words (activatedChild t old shown) shown p)) (so-far : ExplainedFirst t r i p) where
+      next : ExplainedFirst t r i (suc p) ↔ (b ≡ byteAt shown p)
+      next =
+          let long : p < length shown = omega (arith, shown-long shown is-shown) in
+          let inner : p < length (statesOf t r i) = rw is-shown at long in
+          rw (moves, is-old, is-words, is-shown)
+          (explained-next t (statesBefore t r i) (wordsOf t r i) (statesOf t r i) done p (omega arith) inner so-far)
+
+      pub goes-on : b ≡ byteAt shown p → ExplainedFirst t r i (p + 1)
+      goes-on e = rw (add-one p) (next .1 e)
+
+      pub stops-at-plan : (b ≡ byteAt shown p → ⊥) → wordsCheck t r i ≡ Done → Judged t r (verdict.Refused (Unexplained (i + 1) p))
+      stops-at-plan differs words-done =
+          rw (add-one i)
+          (unexplained i p (sound .done) before-end before words-done (omega arith)
+          (λ j l. explained-fewer t _ _ _ (suc j) p l so-far) (λ e. differs (next .0 e)))
+
+    pub none-so-far : ExplainedFirst t r i 0
+    none-so-far = explained-none t (statesBefore t r i) (wordsOf t r i) (statesOf t r i) done
+
+    -- all plans are explained: the step passes
+    pub one-more : (p : ℕ) → p ≡ n → wordsCheck t r i ≡ Done → ExplainedFirst t r i p → (j : ℕ) → j < i + 1 → StepPasses t r j
+    one-more p end words-done explained j l = go (last-or j i (omega arith))
+      where
+        go : (j ≡ i) ⊎ (j < i) → StepPasses t r j
+        go (inl e) = rw e (record { words = words-done; states = rw (end ∙ whole) at explained })
+        go (inr h) = before j h
+
+pub all-steps :
+    (t r : List ℕ) (steps i : ℕ) → recordCheck t r ≡ Done → steps ≡ stepCount t r → steps ≤ i
+    → ((j : ℕ) → j < i → StepPasses t r j) → Judged t r (verdict.Accepted steps)
+all-steps t r steps i done count end before = rw count (accepted done (λ j l. before j (omega arith)))
