@@ -31,26 +31,7 @@ use Rattle.demands.proofs.Accepted.{table-done, before-passes}
 use Rattle.demands.proofs.Numbers.{last-or}
 use Rattle.demands.proofs.PlanByPlan.{explained-none, explained-fewer, explained-next}
 use Rattle.record.specs.Steps.{Lies, Sound}
-use Rattle.record.proofs.Parts.{room}
-
--- A record of good form: a whole number of steps, at most 65,535 of them.
-module _ (t r : List ℕ) (done : recordCheck t r ≡ Done) where
-  header : wrongHeader t r ≡ false
-  unfolding recordCheck
-  header = if-done _ _ (first-done _ _ (then-done (tableCheck t) _ done))
-
-  long-enough : 8 ≤ length r
-  long-enough = ltb-false (length r) 8 (or-left _ _ (or-left _ _ (or-left _ _ (or-left _ _ header))))
-
-  pub few : stepCount t r ≤ 65535
-  unfolding recordCheck
-  few = ltb-false 65535 (stepCount t r) (or-right (not (eqb ((length r - 8) % stepSize t r) 0)) _ (if-done _ _ (then-done _ _ (then-done (tableCheck t) _ done))))
-
-  lies : (n steps i : ℕ) → n ≡ planCount t → steps ≡ stepCount t r → i < steps → Lies r n i
-  lies n steps i whole count inside =
-      let size : ℕ = stepSize t r in
-      let before : i < stepCount t r = rw count at inside in
-      rw whole (omega (arith, room i size (stepCount t r) before, div-mul-le-self (length r - 8) size, long-enough))
+use Rattle.record.proofs.Form.{few, lies}
 
 -- the first k bytes of a buffer of zeros
 pub idle-part : (k m a : ℕ) → k ≤ m → take k (replicate m a) ≡ replicate k a
@@ -95,10 +76,10 @@ module _ (t r ranks names : List ℕ) (sound : Sound t r ranks names) (n steps i
           done = done;
           passes = rw is-old (before-passes t r done i before);
           words = rw (← whole) (words-long words is-words);
-          ranks-room = sound .ranks-room;
-          names-room = sound .names-room;
-          ranked = sound .ranked;
-          collected = sound .collected;
+          ranks-room = sound .tabled .ranks-room;
+          names-room = sound .tabled .names-room;
+          ranked = sound .tabled .ranked;
+          collected = sound .tabled .collected;
         }
 
     -- check 12

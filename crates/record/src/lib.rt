@@ -16,7 +16,7 @@ ghost use Rattle.table.specs.Lowest.{Lowest};
 ghost use Rattle.step.specs.Scene.{Scene};
 ghost use Rattle.demands.specs.Witness.{activatedChild};
 ghost use Rattle.rules.specs.declared.PlanState.the-variants.{Inactive};
-ghost use Rattle.record.specs.Steps.{Lies, noRank, Chosen, Sound};
+ghost use Rattle.record.specs.Steps.{Lies, noRank, Chosen, Tabled, Sound};
 ghost use Rattle.record.specs.Steps.{preferred as Steps·preferred};
 use children::survey;
 use rules::Outcome;
@@ -215,4 +215,47 @@ fn check_steps(
         step: bad_step as u16,
         plan: bad_plan as u16,
     })
+}
+
+// Check 13, for a table of n plans.
+fn wrong_header(record: &[u8], n: usize) -> bool
+    ensures { λ r. ⌜ ((t : List ℕ) → n ≡ planCount t → r ≡ wrongHeader t (now («record» .entry))) ⌝ }
+{
+    if record.len() < 8 {
+        return true;
+    }
+    let version = u16_at(record, 3);
+    let plans = u16_at(record, 5) as usize;
+    !has_mark(record, b'R') | (version != 1) | (plans != n) | (record[7] != 0)
+}
+
+// Checks 13 and 14 of a record, and then its steps, where its table passes.
+fn check_record(table: &[u8], ranks: &[u8], names: &[u64], record: &[u8]) -> Verdict
+    requires { ⌜ Tabled (now table) (now ranks) (now names) ⌝ }
+    ensures { λ r. ⌜ Judged (now (table .entry)) (now («record» .entry)) r ⌝ }
+{
+    let n = u16_at(table, 5) as usize;
+    if wrong_header(record, n) {
+        return Verdict::Refused(Refusal::RecordHeader);
+    }
+    let size = 5 * n;
+    let body = record.len() - 8;
+    let steps = body / size;
+    if (body % size != 0) | (65535 < steps) {
+        return Verdict::Refused(Refusal::RecordLength);
+    }
+    check_steps(table, n, ranks, names, record, steps)
+}
+
+// Whether a record can come from the rules under a table: accepted with its number of steps, or refused at the first place.
+pub fn check(table: &[u8], record: &[u8]) -> Verdict
+    ensures { λ r. ⌜ Judged (now (table .entry)) (now («record» .entry)) r ⌝ }
+{
+    let mut ranks = [0u8; 256];
+    let mut counts = [0u8; 256];
+    let mut names = [0u64; 256];
+    match read_table(table, &mut ranks, &mut counts, &mut names) {
+        Outcome::Refused(why) => Verdict::Refused(why),
+        Outcome::Done => check_record(table, &ranks, &names, record),
+    }
 }

@@ -13,8 +13,8 @@ use Rattle.rules.specs.Answers.{StepPasses, Judged}
 use Rattle.rules.specs.declared.Refusal.the-variants.{Unexplained}
 use Rattle.rules.specs.declared.Verdict.the-variants as verdict
 use Rattle.step.proofs.Scenes.{rooted, narrow, codes, scene}
+use Rattle.record.proofs.Form.{few}
 use Rattle.record.proofs.Steps.{
-  few,
   idle-part,
   there,
   words-long,
