@@ -9,8 +9,8 @@ use lib.ListN.{length}
 use lib.Dec.{eqb, leb, ltb}
 use borrow.Author.Tests.{eqb-true, eqb-false, leb-false, ltb-false, not-false}
 use Rattle.rules.specs.Lists.{least}
-use Rattle.rules.specs.Table.{planCount, parent, childrenBefore, rank, isOrIsAbove}
-use Rattle.rules.specs.Answers.{badParent, undefinedByte, unfit, badWait, headerCheck, tableCheck, tableVerdict}
+use Rattle.rules.specs.Table.{planCount, parent, rank, isOrIsAbove}
+use Rattle.rules.specs.Answers.{unrooted, badParent, undefinedByte, unfit, badWait, headerCheck, tableCheck, tableVerdict}
 use Rattle.rules.specs.declared.Refusal.{Refusal}
 use Rattle.rules.specs.declared.Outcome.{Outcome}
 use Rattle.rules.specs.declared.Outcome.the-variants.{Done, Refused}
@@ -146,9 +146,8 @@ module _ (t : List ℕ) (parents : (p : ℕ) → p < planCount t → badParent t
   rule-at k l = not-false (isOrIsAbove t (parent t (suc k)) k k) (or-left _ (leb 64 (rank t (suc k))) (parents (suc k) l))
 
   narrow-at : (p : ℕ) → p < planCount t → rank t p < 64
-  unfolding badParent rank childrenBefore
-  narrow-at zero l = omega arith
-  narrow-at (suc k) l = leb-false 64 (rank t (suc k)) (or-right (not (isOrIsAbove t (parent t (suc k)) k k)) _ (parents (suc k) l))
+  unfolding badParent
+  narrow-at p l = leb-false 64 (rank t p) (or-right (unrooted t p) _ (parents p l))
 
 -- a table that passes is a tree
 pub tree : (t : List ℕ) → Passes t → Tree t

@@ -125,12 +125,25 @@ unfitEntry p childCount e =
     || eqb p 0 && named e
     || leaf && (not (eqb (e .wait) 0) || retryAborted e || waitForOptional e)
 
+-- 12, where only some picks are allowed: an unused bit, a wrong pick, or filter or setup satisfied but not satisfiable
+abbrev pub wrongWordWith : (ℕ → Bool) → ℕ → Bool
+wrongWordWith allowed x = otherBits x || not (allowed (pickOf x)) || contradicts x
+
+-- 12, of a plan with this entry and so many children
+unfoldable pub wrongWord : PlanEntry → ℕ → ℕ → Bool
+wrongWord e childCount x = wrongWordWith (pickAllowed (bodyOf e) childCount) x
+
 module _ (t : List ℕ) where
-  -- 6: plan 0's parent is 65535, any other's is the plan before it or an ancestor of that one; rank 64 would be a 65th child's
+  -- the parent rule is broken: plan 0's parent is 65535, any other's is the plan before it or an ancestor of that one
+  unfoldable pub unrooted : ℕ → Bool
+  unfolding isOrIsAbove
+  unrooted zero = not (eqb (parent t 0) noPlan)
+  unrooted (suc k) = not (isOrIsAbove t (parent t (suc k)) k k)
+
+  -- 6: the parent rule is broken, or rank 64, which would be a 65th child's
   unfoldable pub badParent : ℕ → Bool
-  unfolding rank isOrIsAbove
-  badParent zero = not (eqb (parent t 0) noPlan)
-  badParent (suc k) = not (isOrIsAbove t (parent t (suc k)) k k) || leb 64 (rank t (suc k))
+  unfolding unrooted rank
+  badParent p = unrooted p || leb 64 (rank t p)
 
   -- 7
   unfoldable pub undefinedByte : ℕ → Bool
@@ -155,40 +168,49 @@ module _ (t : List ℕ) where
       andThen refuseIf (not (eqb (version t) 1)) TableVersion
       andThen refuseIf (ltb (planCount t) 1 || ltb 256 (planCount t) || not (eqb (byteAt t 7) 0)) TableCount
 
+  -- 7 to 9
+  unfoldable pub plansCheck : Outcome
+  unfolding undefinedByte unfit badWait
+  plansCheck =
+      refuseAt Undefined (least undefinedByte (planCount t))
+      andThen refuseAt Unfit (least unfit (planCount t))
+      andThen refuseAt Wait (least badWait (planCount t))
+
   -- 1 to 9, one number over the whole table before the next
   unfoldable pub tableCheck : Outcome
-  unfolding headerCheck badParent undefinedByte unfit badWait
+  unfolding headerCheck badParent plansCheck
   tableCheck =
       headerCheck
       andThen refuseIf (not (eqb (length t) (8 + 8 * planCount t))) TableLength
       andThen refuseAt Parent (least badParent (planCount t))
-      andThen refuseAt Undefined (least undefinedByte (planCount t))
-      andThen refuseAt Unfit (least unfit (planCount t))
-      andThen refuseAt Wait (least badWait (planCount t))
+      andThen plansCheck
 
   -- what reading a table answers: a good one its number of plans
   unfoldable pub tableVerdict : Verdict
   unfolding tableCheck
   tableVerdict = elim tableCheck [ Done ↦ verdict.Accepted (planCount t) | Refused why ↦ verdict.Refused why ]
 
-  -- 12: an unused bit, a wrong pick, or filter or setup satisfied but not satisfiable; in a record any pick is wrong
+  -- 12
   unfoldable pub badWord : List ℕ → ℕ → Bool
-  unfolding children
-  badWord w p =
-      let x : ℕ = word w p in
-      otherBits x || not (pickAllowed (bodyOf (entry t p)) (length (children t p)) (pickOf x)) || contradicts x
+  unfolding children wrongWord
+  badWord w p = wrongWord (entry t p) (length (children t p)) (word w p)
 
+  -- 12 in a record: any pick bit is wrong
   unfoldable pub badRecordWord : List ℕ → ℕ → Bool
-  badRecordWord w p = let x : ℕ = word w p in otherBits x || not (eqb (pickOf x) 0) || contradicts x
+  badRecordWord w p = wrongWordWith (λ pick. eqb pick 0) (word w p)
 
-  -- A call of the step or the run: 1 to 9, 10, 11, 12.
-  unfoldable pub callCheck : List ℕ → List ℕ → Outcome
-  unfolding tableCheck badState badWord
-  callCheck s w =
-      tableCheck
-      andThen refuseIf (not (eqb (length s) (planCount t)) || not (eqb (length w) (4 * planCount t))) Lengths
+  -- 10 to 12
+  unfoldable pub lentCheck : List ℕ → List ℕ → Outcome
+  unfolding badState badWord
+  lentCheck s w =
+      refuseIf (not (eqb (length s) (planCount t)) || not (eqb (length w) (4 * planCount t))) Lengths
       andThen refuseAt State (least (badState t s) (planCount t))
       andThen refuseAt (Word 0) (least (badWord w) (planCount t))
+
+  -- A call of the step or the run: 1 to 9, then 10 to 12.
+  unfoldable pub callCheck : List ℕ → List ℕ → Outcome
+  unfolding tableCheck lentCheck
+  callCheck s w = tableCheck andThen lentCheck s w
 
   -- what the step answers, and the states that it leaves: no refusal changes lent bytes
   abbrev pub stepAnswer : List ℕ → List ℕ → Outcome

@@ -11,7 +11,7 @@ use Rattle.rules.specs.Table.{planCount, entry, children}
 use Rattle.rules.specs.Words.{word}
 use Rattle.rules.specs.HandedIn.{badState}
 use Rattle.rules.specs.Step.{step}
-use Rattle.rules.specs.Answers.{_andThen_, badWord, tableCheck, callCheck, stepStates}
+use Rattle.rules.specs.Answers.{wrongWord, badWord, tableCheck, lentCheck, callCheck, stepStates}
 use Rattle.rules.specs.declared.PlanEntry.{PlanEntry}
 use Rattle.rules.specs.declared.Refusal.{Refusal}
 use Rattle.rules.specs.declared.Refusal.the-variants.{Lengths, State, Word}
@@ -37,7 +37,7 @@ use Rattle.rules.proofs.Tree.{or-left, or-right}
 use Rattle.table.specs.Lowest.{Lowest}
 use Rattle.table.specs.Facts.{Facts, Checked}
 use Rattle.table.proofs.Reading.{found-at, found-none}
-use Rattle.step.specs.Calls.{wrongWord, Counted, lentCheck, Called, Ready}
+use Rattle.step.specs.Calls.{Counted, Called, Ready}
 
 -- check 12 of plan p, from what the code has in hand
 pub word-tested :
@@ -88,7 +88,7 @@ module _ (t s w ranks counts names : List ℕ) where
 
   pub call-lent :
       (r : Outcome) → tableCheck t ≡ Done → Facts t ranks counts names → r ≡ lentCheck t s w → Called t s w ranks counts names r
-  unfolding callCheck lentCheck
+  unfolding callCheck
   call-lent r d known e = record { is = e ∙ sym (then-next (tableCheck t) _ d); facts = λ x. known }
 
   -- a call that passes: the plans may move

@@ -1,27 +1,16 @@
--- Checks 10 to 12 of a call, and what is known once they have passed. Assumes nothing.
+-- What is known in and after checks 10 to 12 of a call. Assumes nothing.
 use Prim.Native.Nat.{ℕ, _+_, _*_, _≤_, _<_}
 use mathlib.Core.Path.{_≡_}
-use mathlib.Core.Bool.{Bool, not, _||_}
 use mathlib.Core.List.{List}
-use lib.Dec.{eqb}
 use lib.ListN.{length, getD}
-use Rattle.rules.specs.Lists.{least}
 use Rattle.rules.specs.Bytes.{byteAt}
-use Rattle.rules.specs.Table.{planCount, entry, bodyOf, named, children, rank}
-use Rattle.rules.specs.Words.{pickOf, pickAllowed, otherBits, contradicts}
-use Rattle.rules.specs.HandedIn.{badState}
-use Rattle.rules.specs.Answers.{_andThen_, refuseIf, refuseAt, badWord, tableCheck, callCheck}
-use Rattle.rules.specs.declared.PlanEntry.{PlanEntry}
+use Rattle.rules.specs.Table.{planCount, entry, named, children, rank}
+use Rattle.rules.specs.Answers.{tableCheck, callCheck}
 use Rattle.children.specs.Sets.{setOf}
 use Rattle.table.specs.Facts.{Facts}
 use Rattle.demands.specs.PassesStates.{PassesStates}
-use Rattle.rules.specs.declared.Refusal.the-variants.{Lengths, State, Word}
 use Rattle.rules.specs.declared.Outcome.{Outcome}
 use Rattle.rules.specs.declared.Outcome.the-variants.{Done}
-
--- a word is wrong for a plan with this entry and so many children
-abbrev pub wrongWord : PlanEntry → ℕ → ℕ → Bool
-wrongWord e childCount x = otherBits x || not (pickAllowed (bodyOf e) childCount (pickOf x)) || contradicts x
 
 -- the n plans' numbers of children, and words for all of them
 pub record Counted (t : List ℕ) (n : ℕ) (counts w : List ℕ) : Type 0 where
@@ -30,13 +19,6 @@ pub record Counted (t : List ℕ) (n : ℕ) (counts w : List ℕ) : Type 0 where
   pub counts-room : n ≤ length counts
   pub words-room : 4 * n ≤ length w
   pub counted : (q : ℕ) → q < n → byteAt counts q ≡ length (children t q)
-
--- checks 10 to 12
-unfoldable pub lentCheck : List ℕ → List ℕ → List ℕ → Outcome
-lentCheck t s w =
-    refuseIf (not (eqb (length s) (planCount t)) || not (eqb (length w) (4 * planCount t))) Lengths
-    andThen refuseAt State (least (badState t s) (planCount t))
-    andThen refuseAt (Word 0) (least (badWord t w) (planCount t))
 
 -- a table that passes, with its numbers of children
 pub record Tabled (t counts : List ℕ) : Type 0 where

@@ -10,7 +10,7 @@ use borrow.Author.Tests.{eq-eqb, ne-eqb}
 use Rattle.rules.specs.Lists.{least, Nowhere, At}
 use Rattle.rules.specs.Bytes.{byteAt}
 use Rattle.rules.specs.Table.{planCount, entry, named, childrenBefore, children}
-use Rattle.rules.specs.Answers.{badParent, undefinedByte, unfit, badWait, headerCheck, tableCheck}
+use Rattle.rules.specs.Answers.{badParent, undefinedByte, unfit, badWait, headerCheck, plansCheck, tableCheck}
 use Rattle.rules.specs.declared.Refusal.{Refusal}
 use Rattle.rules.specs.declared.Refusal.the-variants.{TableLength, Parent, Undefined, Unfit, Wait}
 use Rattle.rules.specs.declared.Outcome.{Outcome}
@@ -19,7 +19,7 @@ use Rattle.rules.proofs.Outcomes.{refused-not-done, pass, stop, pass-at, stop-a
 use Rattle.rules.proofs.Tree.{header}
 use Rattle.children.specs.Sets.{setBefore, setOf, Collected}
 use Rattle.table.specs.Lowest.{Lowest}
-use Rattle.table.specs.Facts.{Shaped, Known, plansCheck, Facts, Checked}
+use Rattle.table.specs.Facts.{Shaped, Known, Facts, Checked}
 use Rattle.table.proofs.Lowest.{lowest-at, lowest-none}
 
 -- a search over n plans is one over the table's plans
@@ -47,7 +47,7 @@ module _ (t : List ℕ) (good : headerCheck t ≡ Done) where
         then-next (headerCheck t) _ good ∙ pass _ _ _ (ap not (eq-eqb _ _ long)) ∙ stop-at _ _ _ p e
 
     pub goes-on : least (badParent t) (planCount t) ≡ Nowhere → tableCheck t ≡ plansCheck t
-    unfolding tableCheck plansCheck
+    unfolding tableCheck
     goes-on e = then-next (headerCheck t) _ good ∙ pass _ _ _ (ap not (eq-eqb _ _ long)) ∙ pass-at _ _ _ e
 
 -- checks 7 to 9

@@ -3,18 +3,18 @@ use Prim.Native.Nat.{ℕ, zero, suc, _+_, _-_, _*_, _≤_, _<_}
 use native.Mathlib.Omega.{arith}
 use native.Mathlib.Decide.{decLt}
 use mathlib.Core.Path.{_≡_, refl, sym, ap, _∙_}
-use mathlib.Core.Bool.{Bool, true, false, not, _||_, or-false}
+use mathlib.Core.Bool.{Bool, true, false, not}
 use mathlib.Core.List.{List}
 use lib.Dec.{eqb, leb}
 use lib.ListN.{length}
 use borrow.Author.Tests.{leb-false, not-false}
 use Rattle.rules.specs.Lists.{noPlan}
 use Rattle.rules.specs.Bytes.{byteAt}
-use Rattle.rules.specs.Table.{parent, childrenBefore, rank, isOrIsAbove}
-use Rattle.rules.specs.Answers.{badParent}
+use Rattle.rules.specs.Table.{parent, rank, isOrIsAbove}
+use Rattle.rules.specs.Answers.{unrooted, badParent}
 use Rattle.rules.proofs.Tree.{rule-down}
 use Rattle.children.specs.Sets.{Rooted, Ranked, Narrow}
-use Rattle.table.specs.Facts.{unrooted, Shaped}
+use Rattle.table.specs.Facts.{Shaped}
 use Rattle.table.specs.Lowest.{Lowest}
 
 -- where the first m plans keep the parent rule, they have earlier parents
@@ -35,12 +35,6 @@ unrooted-next t (suc k) h =
     let e : suc k - 1 ≡ k = omega arith in
     rw e
 
--- check 6 is the parent rule, and the rank
-bad-is : (t : List ℕ) (p : ℕ) → badParent t p ≡ (unrooted t p || leb 64 (rank t p))
-unfolding badParent unrooted rank childrenBefore
-bad-is t zero = sym (or-false (not (eqb (parent t 0) noPlan)))
-bad-is t (suc k) = refl
-
 -- the lowest plan a that breaks the parent rule, the ranks of the plans before it, and the lowest b of these that is a 65th child
 module _
     (t : List ℕ)
@@ -58,16 +52,18 @@ module _
     rank-test p l = ap (leb 64) (sym (ranked .ranked p l))
 
     good-before : (k : ℕ) → k < b → badParent t k ≡ false
+    unfolding badParent
     good-before k l =
         let h = second .within in
-        bad-is t k ∙ rw (first .before k (omega arith), rank-test k (omega arith)) (second .before k l)
+        rw (first .before k (omega arith), rank-test k (omega arith)) (second .before k l)
 
     bad-at : b < n → Dec (b < a) → badParent t b ≡ true
-    bad-at l (yes h) = bad-is t b ∙ rw (first .before b h, rank-test b h) (second .found h)
+    unfolding badParent
+    bad-at l (yes h) = rw (first .before b h, rank-test b h) (second .found h)
     bad-at l (no h) =
         let w = second .within in
         let e : b ≡ a = omega arith in
-        bad-is t b ∙ rw e (rw (first .found (omega arith)) refl)
+        rw e (rw (first .found (omega arith)) refl)
 
     whole : n ≤ b → a ≡ n
     whole h = omega (arith, first .within, second .within)

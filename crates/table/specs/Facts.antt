@@ -1,38 +1,21 @@
--- The rules of checks 6 to 9 one by one, and what is known of a table that passes. Assumes nothing.
-use Prim.Native.Nat.{ℕ, zero, suc, _+_, _*_, _≤_, _<_}
+-- What check 6 finds, the rules of checks 7 to 9 one by one, and what is known of a table that passes. Assumes nothing.
+use Prim.Native.Nat.{ℕ, _+_, _*_, _≤_, _<_}
 use mathlib.Core.Path.{_≡_}
 use mathlib.Core.Bool.{Bool, not, _&&_}
 use mathlib.Core.List.{List}
 use lib.ListN.{length, getD}
 use lib.Count.{ones}
-use lib.Dec.{eqb, ltb}
-use Rattle.rules.specs.Lists.{noPlan, least}
+use lib.Dec.{ltb}
 use Rattle.rules.specs.Bytes.{byteAt}
-use Rattle.rules.specs.Table.{planCount, parent, entry, named, enough, children, rank, isOrIsAbove}
-use Rattle.rules.specs.Answers.{
-  _andThen_,
-  refuseAt,
-  badParent,
-  undefinedEntry,
-  unfitEntry,
-  undefinedByte,
-  unfit,
-  badWait,
-  tableCheck,
-}
+use Rattle.rules.specs.Table.{planCount, parent, entry, named, enough, children, rank}
+use Rattle.rules.specs.Answers.{badParent, undefinedEntry, unfitEntry, undefinedByte, unfit, badWait, tableCheck}
 use Rattle.children.specs.Sets.{setOf, Rooted, Ranked, Narrow}
 use Rattle.table.specs.Lowest.{Lowest}
 use Rattle.rules.specs.declared.PlanEntry.{PlanEntry}
-use Rattle.rules.specs.declared.Refusal.the-variants as refusal
 use Rattle.rules.specs.declared.Outcome.{Outcome}
 use Rattle.rules.specs.declared.Outcome.the-variants.{Done}
 use Rattle.table.specs.declared.Rule.{Rule}
 use Rattle.table.specs.declared.Rule.the-variants.{Undefined, Unfit, Wait}
-
--- the parent rule of check 6 is broken, whatever the number of siblings
-unfoldable pub unrooted : List ℕ → ℕ → Bool
-unrooted t zero = not (eqb (parent t 0) noPlan)
-unrooted t (suc k) = not (isOrIsAbove t (parent t (suc k)) k k)
 
 -- check 6 finds r: the lowest bad plan, or n, and then the first n plans have earlier parents, known ranks below 64, and known numbers of
 -- children
@@ -62,13 +45,6 @@ pub record Known (t : List ℕ) (n : ℕ) (counts names : List ℕ) : Type 0 whe
   pub names-room : n ≤ length names
   pub counted : (q : ℕ) → q < n → byteAt counts q ≡ length (children t q)
   pub collected : (q : ℕ) → q < n → getD names q 0 ≡ setOf t q (λ c. named (entry t c))
-
--- checks 7 to 9
-unfoldable pub plansCheck : List ℕ → Outcome
-plansCheck t =
-    refuseAt refusal.Undefined (least (undefinedByte t) (planCount t))
-    andThen refuseAt refusal.Unfit (least (unfit t) (planCount t))
-    andThen refuseAt refusal.Wait (least (badWait t) (planCount t))
 
 -- what a table that passes gives to those above: its plans' parents, ranks, numbers of children and named children
 pub record Facts (t ranks counts names : List ℕ) : Type 0 where

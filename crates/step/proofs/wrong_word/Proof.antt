@@ -1,9 +1,11 @@
 -- `wrong_word` meets its contract: its three parts. Assumes nothing.
 use borrow.Author.Needs.{needs}
+use Rattle.rules.specs.Answers.{wrongWord}
 use Rattle.step.proofs.wrong_word.Statement.{statement}
 use Rattle.step.proofs.wrong_word.Tie as tie
 
 returns : tie.Need-returns
+unfolding wrongWord
 returns c =
     let b = c .before .before in
     simp (

@@ -7,7 +7,7 @@ use denote.Ref.{now}
 use borrow.Author.Count.{below-none, below-more}
 use borrow.Author.Tests.{eq-eqb, ne-eqb}
 use Rattle.rules.specs.Table.{isOrIsAbove}
-use Rattle.table.specs.Facts.{unrooted}
+use Rattle.rules.specs.Answers.{unrooted}
 use Rattle.table.proofs.Shape.{rooted-first, unrooted-root, unrooted-next}
 use Rattle.table.proofs.Lowest.{stops-here, ends-here}
 use Rattle.table.proofs.lowest_unrooted.Statement.{statement}
