@@ -1,6 +1,5 @@
 -- Laws for the proofs of this crate and of those above it.
 pub mod Parts
 pub mod Form
-pub mod Words
 pub mod Chosen
 pub mod Steps

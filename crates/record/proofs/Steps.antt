@@ -73,18 +73,14 @@ module _ (t r ranks names : List ℕ) (sound : Sound t r ranks names) (n steps i
     pub ready : (old words : List ℕ) → old ≡ statesBefore t r i → words ≡ wordsOf t r i → Ready t old words ranks names
     ready old words is-old is-words =
         record {
-          done = done;
+          prepared = sound .prepared;
           passes = rw is-old (before-passes t r done i before);
           words = rw (← whole) (words-long words is-words);
-          ranks-room = sound .tabled .ranks-room;
-          names-room = sound .tabled .names-room;
-          ranked = sound .tabled .ranked;
-          collected = sound .tabled .collected;
         }
 
     -- check 12
-    module _ (words : List ℕ) (is-words : words ≡ wordsOf t r i) (p : ℕ) (lowest : Lowest (badRecordWord t words) n p) where
-      lowest-word : Lowest (badRecordWord t (wordsOf t r i)) n p
+    module _ (words : List ℕ) (is-words : words ≡ wordsOf t r i) (p : ℕ) (lowest : Lowest (badRecordWord words) n p) where
+      lowest-word : Lowest (badRecordWord (wordsOf t r i)) n p
       lowest-word = rw is-words at lowest
 
       pub stops-at-word : p < n → Judged t r (verdict.Refused (Word (i + 1) p))

@@ -4,13 +4,12 @@ use mathlib.Core.Path.{_≡_}
 use mathlib.Core.Bool.{Bool, cond, _&&_, _||_}
 use mathlib.Core.List.{List}
 use lib.Dec.{eqb}
-use lib.ListN.{length, getD}
+use lib.ListN.{length}
 use Rattle.rules.specs.Bytes.{byteAt}
-use Rattle.rules.specs.Table.{planCount, parent, entry, named, rank}
-use Rattle.rules.specs.Record.{stepSize, stepCount}
-use Rattle.rules.specs.Answers.{tableCheck, recordCheck}
+use Rattle.rules.specs.Table.{planCount, parent, rank}
+use Rattle.rules.specs.Answers.{recordCheck}
 use Rattle.rules.specs.declared.Outcome.the-variants.{Done}
-use Rattle.children.specs.Sets.{setOf}
+use Rattle.table.specs.Facts.{Prepared}
 use Rattle.demands.specs.Witness.{activatedChild}
 
 -- step i of a record r of n plans lies in it
@@ -31,15 +30,7 @@ pub record Chosen (t s shown chosen : List ℕ) : Type 0 where
       (p : ℕ) → 0 < p → p < planCount t
       → eqb (rank t p) (byteAt chosen (parent t p)) ≡ eqb p (activatedChild t s shown (parent t p))
 
--- a table that passes, and its facts
-pub record Tabled (t ranks names : List ℕ) : Type 0 where
-  pub done : tableCheck t ≡ Done
-  pub ranks-room : 256 ≤ length ranks
-  pub names-room : 256 ≤ length names
-  pub ranked : (p : ℕ) → p < planCount t → byteAt ranks p ≡ rank t p
-  pub collected : (q : ℕ) → q < planCount t → getD names q 0 ≡ setOf t q (λ c. named (entry t c))
-
--- and a record of good form
+-- a table that passes, its facts, and a record of good form
 pub record Sound (t r ranks names : List ℕ) : Type 0 where
   pub done : recordCheck t r ≡ Done
-  pub tabled : Tabled t ranks names
+  pub prepared : Prepared t ranks names

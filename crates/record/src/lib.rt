@@ -12,11 +12,12 @@ ghost use Rattle.rules.specs.Step.{newState};
 ghost use Rattle.rules.specs.Record.{stepCount, wordsOf, statesOf, statesBefore};
 ghost use Rattle.rules.specs.Answers.{badRecordWord, wrongHeader, Judged};
 ghost use Rattle.children.specs.Sets.{Rooted, Narrow};
+ghost use Rattle.table.specs.Facts.{Prepared};
 ghost use Rattle.table.specs.Lowest.{Lowest};
 ghost use Rattle.step.specs.Scene.{Scene};
 ghost use Rattle.demands.specs.Witness.{activatedChild};
 ghost use Rattle.rules.specs.declared.PlanState.the-variants.{Inactive};
-ghost use Rattle.record.specs.Steps.{Lies, noRank, Chosen, Tabled, Sound};
+ghost use Rattle.record.specs.Steps.{Lies, noRank, Chosen, Sound};
 ghost use Rattle.record.specs.Steps.{preferred as Steps·preferred};
 use children::survey;
 use rules::Outcome;
@@ -71,7 +72,7 @@ fn states_before<'a>(idle: &'a [u8], record: &'a [u8], n: usize, i: usize) -> &'
 // Check 12 of the word of plan p.
 fn wrong_word(words: &[u8], p: usize) -> bool
     requires { ⌜ 4 * p + 4 ≤ length (now words) ⌝ }
-    ensures { λ r. ⌜ ((t : List ℕ) → r ≡ badRecordWord t (now (words .entry)) p) ⌝ }
+    ensures { λ r. ⌜ r ≡ badRecordWord (now (words .entry)) p ⌝ }
 {
     let x = word_at(words, p);
     other_bits(x) | (pick_of(x) != 0) | word_contradicts(x)
@@ -80,7 +81,7 @@ fn wrong_word(words: &[u8], p: usize) -> bool
 // Check 12: the lowest plan with a wrong word, or n.
 fn lowest_wrong_word(words: &[u8], n: usize) -> usize
     requires { ⌜ 4 * n ≤ length (now words) ⌝ }
-    ensures { λ r. ⌜ ((t : List ℕ) → Lowest (badRecordWord t (now (words .entry))) n r) ⌝ }
+    ensures { λ r. ⌜ Lowest (badRecordWord (now (words .entry))) n r ⌝ }
 {
     let mut p = 0;
     while p < n {
@@ -231,7 +232,7 @@ fn wrong_header(record: &[u8], n: usize) -> bool
 
 // Checks 13 and 14 of a record, and then its steps, where its table passes.
 fn check_record(table: &[u8], ranks: &[u8], names: &[u64], record: &[u8]) -> Verdict
-    requires { ⌜ Tabled (now table) (now ranks) (now names) ⌝ }
+    requires { ⌜ Prepared (now table) (now ranks) (now names) ⌝ }
     ensures { λ r. ⌜ Judged (now (table .entry)) (now («record» .entry)) r ⌝ }
 {
     let n = u16_at(table, 5) as usize;

@@ -133,6 +133,10 @@ wrongWordWith allowed x = otherBits x || not (allowed (pickOf x)) || contradicts
 unfoldable pub wrongWord : PlanEntry → ℕ → ℕ → Bool
 wrongWord e childCount x = wrongWordWith (pickAllowed (bodyOf e) childCount) x
 
+-- 12 in a record, of plan p: any pick bit is wrong
+unfoldable pub badRecordWord : List ℕ → ℕ → Bool
+badRecordWord w p = wrongWordWith (λ pick. eqb pick 0) (word w p)
+
 module _ (t : List ℕ) where
   -- the parent rule is broken: plan 0's parent is 65535, any other's is the plan before it or an ancestor of that one
   unfoldable pub unrooted : ℕ → Bool
@@ -195,10 +199,6 @@ module _ (t : List ℕ) where
   unfolding children wrongWord
   badWord w p = wrongWord (entry t p) (length (children t p)) (word w p)
 
-  -- 12 in a record: any pick bit is wrong
-  unfoldable pub badRecordWord : List ℕ → ℕ → Bool
-  badRecordWord w p = wrongWordWith (λ pick. eqb pick 0) (word w p)
-
   -- 10 to 12
   unfoldable pub lentCheck : List ℕ → List ℕ → Outcome
   unfolding badState badWord
@@ -253,7 +253,7 @@ module _ (t r : List ℕ) where
   -- 12 in step i
   unfoldable pub wordsCheck : ℕ → Outcome
   unfolding badRecordWord
-  wordsCheck i = refuseAt (Word (suc i)) (least (badRecordWord t (wordsOf t r i)) (planCount t))
+  wordsCheck i = refuseAt (Word (suc i)) (least (badRecordWord (wordsOf t r i)) (planCount t))
 
   -- step i passes: its words do, and some picks explain all its states
   pub record StepPasses (i : ℕ) : Type 0 where

@@ -36,7 +36,7 @@ use Rattle.rules.proofs.Least.{nowhere}
 use Rattle.rules.proofs.Tree.{or-left, or-right}
 use Rattle.table.specs.Lowest.{Lowest}
 use Rattle.table.specs.Facts.{Facts, Checked}
-use Rattle.table.proofs.Reading.{found-at, found-none}
+use Rattle.table.proofs.Reading.{found-at, found-none, prepared}
 use Rattle.step.specs.Calls.{Counted, Called, Ready}
 
 -- check 12 of plan p, from what the code has in hand
@@ -99,13 +99,9 @@ module _ (t s w ranks counts names : List ℕ) where
       let lengths = lengths-agree s w (planCount t) (if-done _ _ (first-done _ _ lent)) in
       let states = first-done _ _ (then-done _ _ lent) in
       record {
-        done = first-done (tableCheck t) _ d;
+        prepared = prepared t ranks counts names (first-done (tableCheck t) _ d) known ranks-room names-room;
         passes = record { long = lengths .0; unbroken = nowhere (badState t s) (planCount t) (at-done _ _ states) };
         words = lengths .1;
-        ranks-room = ranks-room;
-        names-room = names-room;
-        ranked = known .ranked;
-        collected = known .collected;
       }
 
 -- what the step leaves

@@ -30,13 +30,9 @@ module _ (t s w ranks names : List ℕ) (ready : Ready t s w ranks names) where
   unfolding step
   ready-next x r =
       record {
-        done = r .done;
-        passes = step-passes t x w (λ q. pickOf (word w q)) (r .done) (r .passes);
+        prepared = r .prepared;
+        passes = step-passes t x w (λ q. pickOf (word w q)) (r .prepared .done) (r .passes);
         words = r .words;
-        ranks-room = r .ranks-room;
-        names-room = r .names-room;
-        ranked = r .ranked;
-        collected = r .collected;
       }
 
   ready-after : (k : ℕ) → Ready t (after t s w k) w ranks names

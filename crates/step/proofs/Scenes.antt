@@ -85,7 +85,7 @@ rooted t done n whole =
 
 module _ (t s w ranks names : List ℕ) (ready : Ready t s w ranks names) (n : ℕ) (whole : n ≡ planCount t) where
   passed : Passes t
-  passed = passes t (ready .done)
+  passed = passes t (ready .prepared .done)
 
   shape : Tree t
   shape = tree t passed
@@ -94,7 +94,7 @@ module _ (t s w ranks names : List ℕ) (ready : Ready t s w ranks names) (n : �
   narrow =
       record {
         some = omega (arith, shape .some);
-        ranked = λ p l. ready .ranked p (omega arith);
+        ranked = λ p l. ready .prepared .ranked p (omega arith);
         narrow = λ p l. shape .narrow p (omega arith);
       }
 
@@ -128,12 +128,12 @@ module _ (t s w ranks names : List ℕ) (ready : Ready t s w ranks names) (n : �
           long = passed .long;
           states-room = omega (arith, ready .passes .long);
           words-room = omega (arith, ready .words);
-          ranks-room = omega (arith, shape .small, ready .ranks-room);
-          names-room = omega (arith, shape .small, ready .names-room);
+          ranks-room = omega (arith, shape .small, ready .prepared .ranks-room);
+          names-room = omega (arith, shape .small, ready .prepared .names-room);
           sets-room = omega arith;
           down = shape .down;
-          ranked = ready .ranked;
-          collected = ready .collected;
+          ranked = ready .prepared .ranked;
+          collected = ready .prepared .collected;
           brood = brood;
         }
 

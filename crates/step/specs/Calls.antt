@@ -2,12 +2,11 @@
 use Prim.Native.Nat.{ℕ, _+_, _*_, _≤_, _<_}
 use mathlib.Core.Path.{_≡_}
 use mathlib.Core.List.{List}
-use lib.ListN.{length, getD}
+use lib.ListN.{length}
 use Rattle.rules.specs.Bytes.{byteAt}
-use Rattle.rules.specs.Table.{planCount, entry, named, children, rank}
+use Rattle.rules.specs.Table.{planCount, children}
 use Rattle.rules.specs.Answers.{tableCheck, callCheck}
-use Rattle.children.specs.Sets.{setOf}
-use Rattle.table.specs.Facts.{Facts}
+use Rattle.table.specs.Facts.{Facts, Prepared}
 use Rattle.demands.specs.PassesStates.{PassesStates}
 use Rattle.rules.specs.declared.Outcome.{Outcome}
 use Rattle.rules.specs.declared.Outcome.the-variants.{Done}
@@ -33,10 +32,6 @@ pub record Called (t s w ranks counts names : List ℕ) (outcome : Outcome) : Ty
 
 -- a table, its facts, states and words that pass: the plans may move
 pub record Ready (t s w ranks names : List ℕ) : Type 0 where
-  pub done : tableCheck t ≡ Done
+  pub prepared : Prepared t ranks names
   pub passes : PassesStates t s
   pub words : length w ≡ 4 * planCount t
-  pub ranks-room : 256 ≤ length ranks
-  pub names-room : 256 ≤ length names
-  pub ranked : (p : ℕ) → p < planCount t → byteAt ranks p ≡ rank t p
-  pub collected : (q : ℕ) → q < planCount t → getD names q 0 ≡ setOf t q (λ c. named (entry t c))

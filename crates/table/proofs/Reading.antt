@@ -19,7 +19,7 @@ use Rattle.rules.proofs.Outcomes.{refused-not-done, pass, stop, pass-at, stop-a
 use Rattle.rules.proofs.Tree.{header}
 use Rattle.children.specs.Sets.{setBefore, setOf, Collected}
 use Rattle.table.specs.Lowest.{Lowest}
-use Rattle.table.specs.Facts.{Shaped, Known, Facts, Checked}
+use Rattle.table.specs.Facts.{Shaped, Known, Facts, Checked, Prepared}
 use Rattle.table.proofs.Lowest.{lowest-at, lowest-none}
 
 -- a search over n plans is one over the table's plans
@@ -118,3 +118,16 @@ module _
           counted = λ q l. count-is q (omega arith);
           collected = λ q l. names-are q (omega arith);
         }
+
+-- a table that passes, and its facts, for those above
+pub prepared :
+    (t ranks counts names : List ℕ) → tableCheck t ≡ Done → Facts t ranks counts names → 256 ≤ length ranks → 256 ≤ length names
+    → Prepared t ranks names
+prepared t ranks counts names done facts ranks-room names-room =
+    record {
+      done = done;
+      ranks-room = ranks-room;
+      names-room = names-room;
+      ranked = facts .ranked;
+      collected = facts .collected;
+    }

@@ -62,6 +62,14 @@ pub record Checked (t ranks counts names : List ℕ) (outcome : Outcome) : Type 
   pub is : outcome ≡ tableCheck t
   pub facts : outcome ≡ Done → Facts t ranks counts names
 
+-- a table that passes, with its plans' ranks and named children at hand
+pub record Prepared (t ranks names : List ℕ) : Type 0 where
+  pub done : tableCheck t ≡ Done
+  pub ranks-room : 256 ≤ length ranks
+  pub names-room : 256 ≤ length names
+  pub ranked : (p : ℕ) → p < planCount t → byteAt ranks p ≡ rank t p
+  pub collected : (q : ℕ) → q < planCount t → getD names q 0 ≡ setOf t q (λ c. named (entry t c))
+
 -- plan i stands behind the given plan, and its parent before it
 abbrev pub outside : List ℕ → ℕ → ℕ → Bool
 outside t plan i = ltb plan i && ltb (parent t i) plan

@@ -2,6 +2,7 @@
 use mathlib.Core.Path.{_≡_, sym, _∙_}
 use native.Mathlib.Omega.{arith}
 use borrow.Author.Needs.{needs}
+use Rattle.table.proofs.Reading.{prepared}
 use Rattle.record.proofs.Form.{table-refused}
 use Rattle.record.proofs.check.Statement.{statement}
 use Rattle.record.proofs.check.Tie as tie
@@ -10,14 +11,7 @@ check-record-requires : tie.Need-check-record-requires
 check-record-requires c κs =
     let read = c .before .before .before .before .before .before .before .read-table .ensures in
     let told = c .before .before .enum-told .given .1 in
-    let facts = read .facts told in
-    record {
-      done = sym (read .is) ∙ told;
-      ranks-room = omega arith;
-      names-room = omega arith;
-      ranked = facts .ranked;
-      collected = facts .collected;
-    }
+    prepared _ _ _ _ (sym (read .is) ∙ told) (read .facts told) (omega arith) (omega arith)
 
 returns : tie.Need-returns
 returns c = table-refused _ _ _ (sym (c .before .before .before .before .before .before .read-table .ensures .is) ∙ c .before .why .given .1)

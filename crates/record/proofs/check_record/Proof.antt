@@ -37,7 +37,7 @@ check-steps-requires c κs =
     let whole = c .before .before .before .u16-at .ensures in (
       record {
         done = form-passes t (now (c .before .before .before .before .before .before .before .before .args .«record»)) (c .before .before .before .before .before .before .before .before .pre .done) _ whole (sym (c .before .before .wrong-header .ensures t whole) ∙ c .before .if1 .left) (c .if2 .left);
-        tabled = c .before .before .before .before .before .before .before .before .pre;
+        prepared = c .before .before .before .before .before .before .before .before .pre;
       },
       (whole, ap (λ (k : ℕ). (length (now (c .before .before .before .before .before .before .before .before .args .«record»)) - 8) / (5 * k)) whole),
     )

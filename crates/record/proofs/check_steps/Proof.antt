@@ -80,7 +80,7 @@ returns c =
     let pre = c .before .before .before .before .before .before .before .before .before .pre in
     let t = now (c .before .before .before .before .before .before .before .before .before .args .table) in
     stops-at-word _ _ _ _ (pre .0) _ _ _ (pre .1 .0) (pre .1 .1) (c .before .before .before .search-test .taken) (c .before .before .before .before .search .inv .3) _
-    (c .before .before .words-of .ensures t (pre .1 .0)) _ (c .before .lowest-wrong-word .ensures t) (c .if1 .taken)
+    (c .before .before .words-of .ensures t (pre .1 .0)) _ (c .before .lowest-wrong-word .ensures) (c .if1 .taken)
 
 states-before-requires : tie.Need-states-before-requires Inv-loop μ-loop Inv-search μ-search
 states-before-requires c κs =
@@ -104,14 +104,14 @@ survey-requires c κs =
     let t = now (c .before .before .before .before .before .before .before .before .before .before .before .before .before .args .table) in
     let whole = pre .1 .0 in
     let moves = ready _ _ _ _ (pre .0) _ _ _ whole (pre .1 .1) (c .before .before .before .before .before .before .before .search-test .taken) (c .before .before .before .before .before .before .before .before .search .inv .3) _ _ (c .before .before .states-before .ensures t whole) (c .before .before .before .before .before .before .words-of .ensures t whole) in
-    let tree = rooted _ (moves .done) _ whole in (
+    let tree = rooted _ (moves .prepared .done) _ whole in (
       tree,
       (
         narrow _ _ _ _ _ moves _ whole,
         (
           codes _ _ _ _ _ moves _ whole,
           (
-            omega (arith, tree .small, moves .ranks-room),
+            omega (arith, tree .small, moves .prepared .ranks-room),
             omega (arith, whole, moves .passes .long),
             omega (arith, tree .small, c .before .before .before .before .before .before .before .before .search .inv .2),
           ),
@@ -125,11 +125,11 @@ choose-requires c κs =
     let t = now (c .before .before .before .before .before .before .before .before .before .before .before .before .before .before .before .before .args .table) in
     let whole = pre .1 .0 in
     let moves = ready _ _ _ _ (pre .0) _ _ _ whole (pre .1 .1) (c .before .before .before .before .before .before .before .before .before .before .search-test .taken) (c .before .before .before .before .before .before .before .before .before .before .before .search .inv .3) _ _ (c .before .before .before .before .before .states-before .ensures t whole) (c .before .before .before .before .before .before .before .before .before .words-of .ensures t whole) in
-    let tree = rooted _ (moves .done) _ whole in (
+    let tree = rooted _ (moves .prepared .done) _ whole in (
       (whole, tree, narrow _ _ _ _ _ moves _ whole),
       (
         (
-          omega (arith, tree .small, moves .ranks-room),
+          omega (arith, tree .small, moves .prepared .ranks-room),
           omega (arith, whole, moves .passes .long),
           omega (arith, shown-long _ _ _ _ (pre .0) _ _ _ whole (pre .1 .1) (c .before .before .before .before .before .before .before .before .before .before .search-test .taken) _ (c .before .before .before .before .states-of .ensures t whole)),
           omega (arith, tree .small),
@@ -189,7 +189,7 @@ search-again c =
       at .inv .1,
       c .before .before .before .before .before .before .survey .ensures .1 .long ∙ c .before .before .before .before .before .before .before .before .before .before .before .before .before .before .before .search .inv .2,
       one-more _ _ _ _ (pre .0) _ _ _ whole (pre .1 .1) (c .before .before .before .before .before .before .before .before .before .before .before .before .before .before .search-test .taken) (c .before .before .before .before .before .before .before .before .before .before .before .before .before .before .before .search .inv .3) _ (omega (arith, at .inv .0, c .loop-test .left))
-          (words-pass _ _ _ _ (pre .0) _ _ _ whole (pre .1 .1) (c .before .before .before .before .before .before .before .before .before .before .before .before .before .before .search-test .taken) (c .before .before .before .before .before .before .before .before .before .before .before .before .before .before .before .search .inv .3) _ (c .before .before .before .before .before .before .before .before .before .before .before .before .before .words-of .ensures t whole) _ (c .before .before .before .before .before .before .before .before .before .before .before .before .lowest-wrong-word .ensures t) (c .before .before .before .before .before .before .before .before .before .before .before .if1 .left)) (at .inv .2),
+          (words-pass _ _ _ _ (pre .0) _ _ _ whole (pre .1 .1) (c .before .before .before .before .before .before .before .before .before .before .before .before .before .before .search-test .taken) (c .before .before .before .before .before .before .before .before .before .before .before .before .before .before .before .search .inv .3) _ (c .before .before .before .before .before .before .before .before .before .before .before .before .before .words-of .ensures t whole) _ (c .before .before .before .before .before .before .before .before .before .before .before .before .lowest-wrong-word .ensures) (c .before .before .before .before .before .before .before .before .before .before .before .if1 .left)) (at .inv .2),
     )
 
 -- the search was left at a plan that no picks explain
@@ -216,7 +216,7 @@ stopped c found =
       judged =
           stops-at-plan _ _ _ _ (pre .0) _ _ _ whole (pre .1 .1) (w .0 .taken) (at .inv .3) _ _ _ (w .5 .ensures t whole) (w .1 .ensures t whole) (w .6 .ensures t whole) _ _ (w .14 .taken)
           (w .18 .ensures ∙ ap code (w .17 .ensures)) (w .13 .inv .2) (w .20 .taken)
-          (words-pass _ _ _ _ (pre .0) _ _ _ whole (pre .1 .1) (w .0 .taken) (at .inv .3) _ (w .1 .ensures t whole) _ (w .2 .ensures t) (w .3 .left));
+          (words-pass _ _ _ _ (pre .0) _ _ _ whole (pre .1 .1) (w .0 .taken) (at .inv .3) _ (w .1 .ensures t whole) _ (w .2 .ensures) (w .3 .left));
     }))
     (c .search-test .came)
 

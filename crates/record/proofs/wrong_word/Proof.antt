@@ -1,14 +1,14 @@
 -- `wrong_word` meets its contract: the three tests of a word. Assumes nothing.
-use mathlib.Core.Path.{_≡_, _∙_}
+use mathlib.Core.Path.{refl}
 use borrow.Author.Needs.{needs}
-use Rattle.record.proofs.Words.{word-tested}
+use Rattle.rules.specs.Answers.{badRecordWord}
 use Rattle.record.proofs.wrong_word.Statement.{statement}
 use Rattle.record.proofs.wrong_word.Tie as tie
 
 returns : tie.Need-returns
-returns c t =
-    simp (c .before .before .other-bits .ensures, c .before .pick-of .ensures .0, c .word-contradicts .ensures)
-    (word-tested t _ _ _ (c .before .before .before .word-at .ensures))
+unfolding badRecordWord
+returns c =
+    simp (c .before .before .other-bits .ensures, c .before .pick-of .ensures .0, c .word-contradicts .ensures, c .before .before .before .word-at .ensures)
 
 pub wrong-word-spec : {M : Type 1} → statement M
 wrong-word-spec =

@@ -14,7 +14,7 @@ use Rattle.step.proofs.is_settled.Tie as tie
 unchanged-requires : tie.Need-unchanged-requires
 unchanged-requires c κs =
     let pre = c .before .before .before .before .before .before .before .before .before .before .before .before .before .before .before .pre in
-    omega (arith, pre .0 .passes .long, tree _ (passes _ (pre .0 .done)) .small, pre .1 .1)
+    omega (arith, pre .0 .passes .long, tree _ (passes _ (pre .0 .prepared .done)) .small, pre .1 .1)
 
 returns : tie.Need-returns
 returns c =

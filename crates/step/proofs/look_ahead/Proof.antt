@@ -10,14 +10,14 @@ survey-requires : tie.Need-survey-requires
 survey-requires c κs =
     let pre = c .before .before .before .before .before .before .before .before .before .pre in
     let whole = c .before .u16-at .ensures in
-    let tree = rooted _ (pre .0 .done) _ whole in (
+    let tree = rooted _ (pre .0 .prepared .done) _ whole in (
       tree,
       (
         narrow _ _ _ _ _ (pre .0) _ whole,
         (
           codes _ _ _ _ _ (pre .0) _ whole,
           (
-            omega (arith, tree .small, pre .0 .ranks-room),
+            omega (arith, tree .small, pre .0 .prepared .ranks-room),
             omega (arith, whole, pre .0 .passes .long),
             omega (arith, tree .small, pre .1 .0),
           ),
@@ -30,7 +30,7 @@ advance-requires c κs =
     let pre = c .before .before .before .before .before .before .before .before .before .before .before .before .before .before .pre in
     let whole = c .before .before .before .before .before .before .u16-at .ensures in
     let survey = c .before .before .before .before .survey .ensures in
-    let tree = rooted _ (pre .0 .done) _ whole in (
+    let tree = rooted _ (pre .0 .prepared .done) _ whole in (
       scene _ _ _ _ _ (pre .0) _ whole _ (survey .0) (omega (arith, tree .small, pre .1 .0, survey .1 .long)),
       (whole, omega (arith, tree .small, pre .1 .1)),
     )
@@ -42,7 +42,7 @@ pub look-ahead-spec : {M : Type 1} → statement M
 look-ahead-spec =
     tie.close
     (tie.spec
-    (λ c κs. omega (arith, passes _ (c .before .before .before .before .before .before .before .pre .0 .done) .long))
+    (λ c κs. omega (arith, passes _ (c .before .before .before .before .before .before .before .pre .0 .prepared .done) .long))
     (λ c. search needs)
     survey-requires
     advance-requires

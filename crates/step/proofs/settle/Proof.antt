@@ -35,7 +35,7 @@ take-over-requires : tie.Need-take-over-requires Inv-loop μ-loop
 take-over-requires c κs =
     let inv = c .before .before .before .before .before .before .before .before .before .before .loop .inv in
     let ready = c .before .before .before .before .before .before .before .before .before .before .before .before .before .before .before .before .pre in
-    omega (arith, inv .1, inv .3, ready .passes .long, tree _ (passes _ (ready .done)) .small)
+    omega (arith, inv .1, inv .3, ready .passes .long, tree _ (passes _ (ready .prepared .done)) .small)
 
 loop-again : tie.Need-loop-again Inv-loop μ-loop
 loop-again c =

@@ -10,7 +10,7 @@ use Rattle.step.proofs.step_over.Tie as tie
 take-over-requires : tie.Need-take-over-requires
 take-over-requires c κs =
     let ready = c .before .before .before .before .before .before .before .before .before .before .before .before .before .pre in
-    omega (arith, ready .passes .long, tree _ (passes _ (ready .done)) .small)
+    omega (arith, ready .passes .long, tree _ (passes _ (ready .prepared .done)) .small)
 
 returns : tie.Need-returns
 returns c =
