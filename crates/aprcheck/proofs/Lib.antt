@@ -1,0 +1,4 @@
+-- Laws for the proofs of this crate.
+pub mod Inputs
+pub mod Decimals
+pub mod Texts

@@ -1,0 +1,29 @@
+-- `line_of` meets its contract: a line for each kind of verdict. Assumes nothing.
+use mathlib.Core.Path.{sym, ap, _∙_}
+use borrow.Author.Needs.{needs}
+use Rattle.rules.specs.Program.{line}
+use Rattle.aprcheck.proofs.line_of.Statement.{statement}
+use Rattle.aprcheck.proofs.line_of.Tie as tie
+
+returns : tie.Need-returns
+returns c =
+    let written = c .before .before .accepted-line .ensures in
+    (written .0, written .1 ∙ ap (line _) (sym (c .before .before .before .before .before .verdict .given .1)))
+
+returns-2 : tie.Need-returns-2
+returns-2 c =
+    let written = c .before .before .refused-line .ensures in
+    (written .0, written .1 (c .before .before .before .before .before .before .before .before .args .n) ∙ ap (line _) (sym (c .before .before .before .before .before .verdict2 .given .1)))
+
+pub line-of-spec : {M : Type 1} → statement M
+line-of-spec =
+    tie.close
+    (tie.spec
+    (λ c. search needs)
+    (λ c κs. search needs)
+    (λ c. search needs)
+    (λ c κs. search needs)
+    (λ c. search needs)
+    returns
+    (λ c. search needs)
+    returns-2)

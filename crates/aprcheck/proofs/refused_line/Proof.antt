@@ -1,0 +1,31 @@
+-- `refused_line` meets its contract: its pieces are the line. Assumes nothing.
+use native.Mathlib.Omega.{arith}
+use mathlib.Core.Path.{_∙_}
+use mathlib.Core.List.{append-assoc}
+use borrow.Author.Needs.{needs}
+use Rattle.aprcheck.proofs.Texts.{and-then}
+use Rattle.aprcheck.proofs.refused_line.Statement.{statement}
+use Rattle.aprcheck.proofs.refused_line.Tie as tie
+
+returns : tie.Need-returns
+returns c =
+    let start = c .before .before .before .before .before .before .before .before .before .before .before .before .before .before .before .put .ensures in
+    let number = c .before .before .before .before .before .before .before .before .before .before .put-number .ensures in
+    let step = c .before .before .before .before .before .before .put-number2 .ensures in
+    let plan = c .before .before .put-number3 .ensures in
+    let whole = and-then (and-then (and-then start (number .1)) (step .1)) (plan .1) in
+    (omega (arith, plan .0, step .0, number .0, start .place), λ n. whole .bytes ∙ simp (append-assoc, c .before .before .before .before .before .before .before .before .before .before .before .before .before .before .before .before .before .before .place .ensures))
+
+pub refused-line-spec : {M : Type 1} → statement M
+refused-line-spec =
+    tie.close
+    (tie.spec
+    (λ c κs. search needs)
+    (λ c. search needs)
+    (λ c κs. search needs)
+    (λ c. search needs)
+    (λ c κs. search needs)
+    (λ c κs. search needs)
+    (λ c κs. search needs)
+    (λ c. search needs)
+    returns)

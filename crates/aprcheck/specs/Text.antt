@@ -1,0 +1,10 @@
+-- Text that is put together piece by piece in a slice. Assumes nothing.
+use Prim.Native.Nat.{ℕ, _+_}
+use mathlib.Core.Path.{_≡_}
+use mathlib.Core.List.{List, _++_}
+use lib.ListN.{length, take}
+
+-- a piece is put behind the first `at` bytes of a slice: what the slice holds after that up to the new end
+pub record Appended (before : List ℕ) (at : ℕ) (piece after : List ℕ) (end : ℕ) : Type 0 where
+  pub place : end ≡ at + length piece
+  pub bytes : take end after ≡ take at before ++ piece

@@ -1,0 +1,113 @@
+// The program `aprcheck` of document 01: a table and then a record on standard input, one line on standard output.
+// So far: where the table ends, and the line for a verdict. Assumes nothing.
+ghost use mathlib.Core.Path.{_≡_};
+ghost use mathlib.Core.List.{[], _∷_, _++_};
+ghost use Prim.Native.Nat.{ℕ, _+_, _<_, _≤_};
+ghost use lib.ListN.{length, take};
+ghost use Rattle.rules.specs.Bytes.{byteAt};
+ghost use Rattle.rules.specs.Table.{planCount};
+ghost use Rattle.rules.specs.Program.{tableLength, decimal, line};
+ghost use Rattle.aprcheck.specs.Text.{Appended};
+use rules::Outcome;
+use rules::Refusal;
+use rules::Verdict;
+
+// Prints nothing yet: the line waits for the record checker.
+fn main() {}
+
+// How many bytes of the input are the table.
+fn table_length(input: &[u8]) -> usize
+    ensures { λ r. ⌜ (r ≡ tableLength (now (input .entry))) × (r ≤ length (now (input .entry))) ⌝ }
+{
+    match table::header_check(input) {
+        Outcome::Refused(_) => input.len(),
+        Outcome::Done => {
+            let whole = 8 + 8 * (plan_count(input) as usize);
+            if whole <= input.len() {
+                whole
+            } else {
+                input.len()
+            }
+        }
+    }
+}
+
+// The plan count in the header of the input. It is read before anything is checked, so bytes that are missing count as 0.
+fn plan_count(input: &[u8]) -> u16
+    ensures { λ r. ⌜ r ≡ planCount (now (input .entry)) ⌝ }
+{
+    byte_at(input, 5) + 256 * byte_at(input, 6)
+}
+
+// A byte of the input, or 0 past its end.
+fn byte_at(input: &[u8], i: usize) -> u16
+    ensures { λ r. ⌜ (r ≡ byteAt (now (input .entry)) i) × (r < 256) ⌝ }
+{
+    if i < input.len() { input[i] as u16 } else { 0 }
+}
+
+// Puts the line for a verdict on a table of n plans at the start of `out`, and answers where it ends.
+fn line_of(n: u16, verdict: Verdict, out: &mut [u8]) -> usize
+    requires { ⌜ 64 ≤ length (now out) ⌝ }
+    ensures { λ r. ⌜ (r ≤ 64) × (take r (now (out .exit)) ≡ line n verdict) ⌝ }
+{
+    match verdict {
+        Verdict::Accepted(steps) => accepted_line(n, steps, out),
+        Verdict::Refused(why) => refused_line(why, out),
+    }
+}
+
+// The line for a record of so many steps that is accepted.
+fn accepted_line(n: u16, steps: u16, out: &mut [u8]) -> usize
+    requires { ⌜ 64 ≤ length (now out) ⌝ }
+    ensures { λ r. ⌜ (r ≤ 64) × (take r (now (out .exit)) ≡ line n (Verdict.Accepted steps)) ⌝ }
+{
+    let at = put(b"accepted ", out, 0);
+    let at = put_number(n, b' ', out, at);
+    put_number(steps, b'\n', out, at)
+}
+
+// The line for a refusal, in which the plan count does not show.
+fn refused_line(why: Refusal, out: &mut [u8]) -> usize
+    requires { ⌜ 64 ≤ length (now out) ⌝ }
+    ensures { λ r. ⌜ (r ≤ 64) × ((n : ℕ) → take r (now (out .exit)) ≡ line n (Verdict.Refused why)) ⌝ }
+{
+    let place = why.place();
+    let at = put(b"refused ", out, 0);
+    let at = put_number(place.number as u16, b' ', out, at);
+    let at = put_number(place.step, b' ', out, at);
+    put_number(place.plan, b'\n', out, at)
+}
+
+// Puts a number in decimal and one byte more behind the first `at` bytes of `out`, and answers the new end.
+fn put_number(x: u16, stop: u8, out: &mut [u8], at: usize) -> usize
+    requires { ⌜ at + 6 ≤ length (now out) ⌝ }
+    ensures { λ r. ⌜ (r ≤ at + 6) × Appended (now (out .entry)) at (decimal x ++ (stop ∷ [])) (now (out .exit)) r ⌝ }
+{
+    let end = put_decimal(x, out, at);
+    out[end] = stop;
+    end + 1
+}
+
+// Puts a number in decimal there. The kit spells it in a buffer of its own.
+fn put_decimal(x: u16, out: &mut [u8], at: usize) -> usize
+    requires { ⌜ at + 5 ≤ length (now out) ⌝ }
+    ensures { λ r. ⌜ (r ≤ at + 5) × Appended (now (out .entry)) at (decimal x) (now (out .exit)) r ⌝ }
+{
+    let mut digits = [0u8; 20];
+    let k = io::decimal(x as u64, &mut digits);
+    put(&digits[..k], out, at)
+}
+
+// Puts a text there.
+fn put(text: &[u8], out: &mut [u8], at: usize) -> usize
+    requires { ⌜ at + length (now text) ≤ length (now out) ⌝ }
+    ensures { λ r. ⌜ Appended (now (out .entry)) at (now (text .entry)) (now (out .exit)) r ⌝ }
+{
+    let mut i = 0;
+    while i < text.len() {
+        out[at + i] = text[i];
+        i += 1;
+    }
+    at + i
+}
