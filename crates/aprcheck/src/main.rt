@@ -1,19 +1,56 @@
 // The program `aprcheck` of document 01: a table and then a record on standard input, one line on standard output.
-// So far: where the table ends, and the line for a verdict. Assumes nothing.
+// `report` is the whole of it on slices: its contract says that the line is that of a verdict which the definitions permit.
+// Assumes what `io` does of read and write, which no contract can speak of: that `main` is given the bytes of standard input, a read
+// that fails counting as their end, and that what it hands over is written.
 ghost use mathlib.Core.Path.{_≡_};
 ghost use mathlib.Core.List.{[], _∷_, _++_};
 ghost use Prim.Native.Nat.{ℕ, _+_, _<_, _≤_};
 ghost use lib.ListN.{length, take};
+ghost use Rattle.io.specs.Counts.{Counts};
 ghost use Rattle.rules.specs.Bytes.{byteAt};
 ghost use Rattle.rules.specs.Table.{planCount};
-ghost use Rattle.rules.specs.Program.{tableLength, decimal, line};
+ghost use Rattle.rules.specs.Program.{tableLength, Answered, decimal, line, Printed};
 ghost use Rattle.aprcheck.specs.Text.{Appended};
+use libc::STDIN_FILENO;
+use libc::STDOUT_FILENO;
 use rules::Outcome;
 use rules::Refusal;
 use rules::Verdict;
 
-// Prints nothing yet: the line waits for the record checker.
-fn main() {}
+fn main() {
+    let mut input = buffer();
+    let n = io::read_full(STDIN_FILENO, &mut input);
+    let mut out = [0u8; 64];
+    let end = report(&input[..n], &mut out);
+    io::write_all(STDOUT_FILENO, &out[..end]);
+}
+
+// Room for the longest input that may pass and one byte more: an input that fills it is too long, whatever else follows.
+fn buffer() -> [u8; 65537]
+    ensures { λ r. ⌜ 65537 ≡ length r ⌝ }
+{
+    [0; 65537]
+}
+
+// Puts the line for an input at the start of `out`, and answers where it ends.
+fn report(input: &[u8], out: &mut [u8]) -> usize
+    requires { ⌜ 64 ≤ length (now out) ⌝ }
+    ensures within { λ r. ⌜ Counts r (now (out .exit)) ⌝ }
+    ensures printed { λ r. ⌜ Printed (now (input .entry)) (take r (now (out .exit))) ⌝ }
+{
+    line_of(plan_count(input), answer(input), out)
+}
+
+// The verdict on an input: its length is looked at first.
+fn answer(input: &[u8]) -> Verdict
+    ensures { λ r. ⌜ Answered (now (input .entry)) r ⌝ }
+{
+    if 65536 < input.len() {
+        return Verdict::Refused(Refusal::InputLong);
+    }
+    let k = table_length(input);
+    record::check(&input[..k], &input[k..])
+}
 
 // How many bytes of the input are the table.
 fn table_length(input: &[u8]) -> usize
