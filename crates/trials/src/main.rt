@@ -3,8 +3,10 @@
 //   subtree TABLE STATES PLAN         asks for a sub tree
 //   move TABLE STATES WORDS           takes one step, and shows the states that it leaves
 //   rest TABLE STATES WORDS BUDGET    steps until rest, and shows the states that it leaves
+//   judge TABLE RECORD                checks a record
 // with bytes in hexadecimal (see `bytes_of`) and numbers in decimal. A line that begins with `#` is printed as it is, and an empty one as well.
 // Assumes what `io` does of read and write, and that the input is at most 65,536 bytes.
+ghost use mathlib.Core.Path.{_≡_};
 ghost use Prim.Native.Nat.{_≤_, _<_};
 ghost use lib.ListN.{length};
 ghost use Rattle.io.specs.Counts.{Counts};
@@ -60,6 +62,7 @@ fn run_line(line: &[u8]) {
         b's' => run_sub_tree(line),
         b'm' => run_call(line, false),
         b'r' => run_call(line, true),
+        b'j' => run_judge(line),
         _ => {
             print(b"no such trial");
             end_line();
@@ -210,6 +213,21 @@ fn call(table: &[u8], states: &mut [u8], words: &[u8], budget: u16, rests: bool)
     }
     print_outcome(step::step(table, states, words));
     print_left(states);
+}
+
+fn run_judge(line: &[u8]) {
+    let mut space = io::buffer();
+    let n = bytes_of(field(line, 1), &mut space);
+    let mut steps = record_buffer();
+    let m = bytes_of(field(line, 2), &mut steps);
+    print_verdict(record::check(&space[..n], &steps[..m]));
+}
+
+// Room for the header and one step too many of a record of one plan.
+fn record_buffer() -> [u8; 327688]
+    ensures { λ r. ⌜ 327688 ≡ length r ⌝ }
+{
+    [0; 327688]
 }
 
 fn print_left(states: &[u8]) {
