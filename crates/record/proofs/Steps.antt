@@ -43,86 +43,94 @@ idle-part (suc k) (suc m) a l = ap (λ (z : List ℕ). a ∷ z) (idle-part k m a
 part-long : (r : List ℕ) (from long : ℕ) → from + long ≤ length r → length (take long (drop from r)) ≡ long
 part-long r from long l = length-take-le long (drop from r) (omega (arith, length-drop from r))
 
--- Step i, where the steps before it pass; `old`, `words` and `shown` are its parts.
-module _ (t r ranks names : List ℕ) (sound : Sound t r ranks names) (n steps i : ℕ) (whole : n ≡ planCount t)
-    (count : steps ≡ stepCount t r) (inside : i < steps) where
+-- The search stands at step i, and the steps before it pass.
+pub record Here (t r ranks names : List ℕ) (n steps i : ℕ) : Type 0 where
+  pub sound : Sound t r ranks names
+  pub whole : n ≡ planCount t
+  pub count : steps ≡ stepCount t r
+  pub inside : i < steps
+  pub before : (j : ℕ) → j < i → StepPasses t r j
+
+module _ {t r ranks names : List ℕ} {n steps i : ℕ} (here : Here t r ranks names n steps i) where
+  abbrev good : recordCheck t r ≡ Done
+  good = here .sound .done
+
+  done : tableCheck t ≡ Done
+  done = table-done t r good
+
+  inner : i < stepCount t r
+  inner = rw (here .count) at (here .inside)
+
+  -- where it lies
   pub there : Lies r n i
-  there = lies t r (sound .done) n steps i whole count inside
-
-  pub words-long : (words : List ℕ) → words ≡ wordsOf t r i → length words ≡ 4 * n
-  words-long words e =
-      rw (e, ← whole) (part-long r (8 + i * (5 * n)) (4 * n) (omega (arith, there)))
-
-  pub shown-long : (shown : List ℕ) → shown ≡ statesOf t r i → length shown ≡ n
-  shown-long shown e =
-      rw (e, ← whole) (part-long r (8 + i * (5 * n) + 4 * n) n (omega (arith, there)))
+  there = lies t r good n steps i (here .whole) (here .count) (here .inside)
 
   pub few-plans : n ≤ 256
-  few-plans = omega (arith, whole, tree t (passes t (table-done t r (sound .done))) .small)
+  few-plans = omega (arith, here .whole, tree t (passes t done) .small)
 
   pub step-fits : i + 1 < 65536
-  step-fits = omega (arith, few t r (sound .done), count, inside)
+  step-fits = omega (arith, few t r good, inner)
 
-  before-end : i < stepCount t r
-  before-end = rw count at inside
+  pub words-long : (words : List ℕ) → words ≡ wordsOf t r i → length words ≡ 4 * n
+  words-long words e = rw (e, ← here .whole) (part-long r (8 + i * (5 * n)) (4 * n) (omega (arith, there)))
 
-  module _ (before : (j : ℕ) → j < i → StepPasses t r j) where
-    done : tableCheck t ≡ Done
-    done = table-done t r (sound .done)
+  pub shown-long : (shown : List ℕ) → shown ≡ statesOf t r i → length shown ≡ n
+  shown-long shown e = rw (e, ← here .whole) (part-long r (8 + i * (5 * n) + 4 * n) n (omega (arith, there)))
 
-    pub ready : (old words : List ℕ) → old ≡ statesBefore t r i → words ≡ wordsOf t r i → Ready t old words ranks names
-    ready old words is-old is-words =
-        record {
-          prepared = sound .prepared;
-          passes = rw is-old (before-passes t r done i before);
-          words = rw (← whole) (words-long words is-words);
-        }
+  -- its plans may move
+  pub ready : (old words : List ℕ) → old ≡ statesBefore t r i → words ≡ wordsOf t r i → Ready t old words ranks names
+  ready old words is-old is-words =
+      record {
+        prepared = here .sound .prepared;
+        passes = rw is-old (before-passes t r done i (here .before));
+        words = rw (← here .whole) (words-long words is-words);
+      }
 
-    -- check 12
-    module _ (words : List ℕ) (is-words : words ≡ wordsOf t r i) (p : ℕ) (lowest : Lowest (badRecordWord words) n p) where
-      lowest-word : Lowest (badRecordWord (wordsOf t r i)) n p
-      lowest-word = rw is-words at lowest
+  -- check 12
+  module _ (words : List ℕ) (is-words : words ≡ wordsOf t r i) (p : ℕ) (lowest : Lowest (badRecordWord words) n p) where
+    lowest-word : Lowest (badRecordWord (wordsOf t r i)) n p
+    lowest-word = rw is-words at lowest
 
-      pub stops-at-word : p < n → Judged t r (verdict.Refused (Word (i + 1) p))
-      unfolding wordsCheck
-      stops-at-word l =
-          rw (add-one i)
-          (badWords i (sound .done) before-end before (stop-at-last _ _ p (found-at t n whole _ p lowest-word l)))
+    pub stops-at-word : p < n → Judged t r (verdict.Refused (Word (i + 1) p))
+    unfolding wordsCheck
+    stops-at-word l =
+        rw (add-one i)
+        (badWords i good inner (here .before) (stop-at-last _ _ p (found-at t n (here .whole) _ p lowest-word l)))
 
-      pub words-pass : n ≤ p → wordsCheck t r i ≡ Done
-      unfolding wordsCheck
-      words-pass l = pass-at-last _ _ (found-none t n whole _ p lowest-word l)
+    pub words-pass : n ≤ p → wordsCheck t r i ≡ Done
+    unfolding wordsCheck
+    words-pass l = pass-at-last _ _ (found-none t n (here .whole) _ p lowest-word l)
 
-    -- check 15: plan p, where some picks explain the plans before it
-    module _ (old words shown : List ℕ) (is-old : old ≡ statesBefore t r i) (is-words : words ≡ wordsOf t r i)
-        (is-shown : shown ≡ statesOf t r i) (p b : ℕ) (within : p < n)
-        (moves : b ≡ code (newState t old words (activatedChild t old shown) shown p)) (so-far : ExplainedFirst t r i p) where
-      next : ExplainedFirst t r i (suc p) ↔ (b ≡ byteAt shown p)
-      next =
-          let long : p < length shown = omega (arith, shown-long shown is-shown) in
-          let inner : p < length (statesOf t r i) = rw is-shown at long in
-          rw (moves, is-old, is-words, is-shown)
-          (explained-next t (statesBefore t r i) (wordsOf t r i) (statesOf t r i) done p (omega arith) inner so-far)
+  -- check 15: plan p, where some picks explain the plans before it
+  module _ (old words shown : List ℕ) (is-old : old ≡ statesBefore t r i) (is-words : words ≡ wordsOf t r i)
+      (is-shown : shown ≡ statesOf t r i) (p b : ℕ) (within : p < n)
+      (moves : b ≡ code (newState t old words (activatedChild t old shown) shown p)) (so-far : ExplainedFirst t r i p) where
+    next : ExplainedFirst t r i (suc p) ↔ (b ≡ byteAt shown p)
+    next =
+        let long : p < length shown = omega (arith, shown-long shown is-shown) in
+        let in-part : p < length (statesOf t r i) = rw is-shown at long in
+        rw (moves, is-old, is-words, is-shown)
+        (explained-next t (statesBefore t r i) (wordsOf t r i) (statesOf t r i) done p (omega (arith, here .whole)) in-part so-far)
 
-      pub goes-on : b ≡ byteAt shown p → ExplainedFirst t r i (p + 1)
-      goes-on e = rw (add-one p) (next .1 e)
+    pub goes-on : b ≡ byteAt shown p → ExplainedFirst t r i (p + 1)
+    goes-on e = rw (add-one p) (next .1 e)
 
-      pub stops-at-plan : (b ≡ byteAt shown p → ⊥) → wordsCheck t r i ≡ Done → Judged t r (verdict.Refused (Unexplained (i + 1) p))
-      stops-at-plan differs words-done =
-          rw (add-one i)
-          (unexplained i p (sound .done) before-end before words-done (omega arith)
-          (λ j l. explained-fewer t _ _ _ (suc j) p l so-far) (λ e. differs (next .0 e)))
+    pub stops-at-plan : (b ≡ byteAt shown p → ⊥) → wordsCheck t r i ≡ Done → Judged t r (verdict.Refused (Unexplained (i + 1) p))
+    stops-at-plan differs words-done =
+        rw (add-one i)
+        (unexplained i p good inner (here .before) words-done (omega (arith, here .whole))
+        (λ j l. explained-fewer t _ _ _ (suc j) p l so-far) (λ e. differs (next .0 e)))
 
-    pub none-so-far : ExplainedFirst t r i 0
-    none-so-far = explained-none t (statesBefore t r i) (wordsOf t r i) (statesOf t r i) done
+  pub none-so-far : ExplainedFirst t r i 0
+  none-so-far = explained-none t (statesBefore t r i) (wordsOf t r i) (statesOf t r i) done
 
-    -- all plans are explained: the step passes
-    pub one-more : (p : ℕ) → p ≡ n → wordsCheck t r i ≡ Done → ExplainedFirst t r i p → (j : ℕ) → j < i + 1 → StepPasses t r j
-    one-more p end words-done explained j l = go (last-or j i (omega arith))
-      where
-        go : (j ≡ i) ⊎ (j < i) → StepPasses t r j
-        go (inl e) = rw e (record { words = words-done; states = rw (end ∙ whole) at explained })
-        go (inr h) = before j h
+  -- all plans are explained: the step passes
+  pub one-more : (p : ℕ) → p ≡ n → wordsCheck t r i ≡ Done → ExplainedFirst t r i p → (j : ℕ) → j < i + 1 → StepPasses t r j
+  one-more p end words-done explained j l = go (last-or j i (omega arith))
+    where
+      go : (j ≡ i) ⊎ (j < i) → StepPasses t r j
+      go (inl e) = rw e (record { words = words-done; states = rw (end ∙ here .whole) at explained })
+      go (inr h) = here .before j h
 
 pub all-steps :
     (t r : List ℕ) (steps i : ℕ) → recordCheck t r ≡ Done → steps ≡ stepCount t r → steps ≤ i

@@ -31,6 +31,7 @@ use step::next_child;
 use step::next_root;
 use step::other_bits;
 use step::pick_of;
+use step::wide;
 use step::word_contradicts;
 use table::has_mark;
 use table::read_table;
@@ -157,13 +158,6 @@ fn next_shown(
     )
 }
 
-// A byte as a rank: named, so that a reader of it has its bound.
-fn wide(x: u8) -> u32
-    ensures { λ r. ⌜ r ≡ x ⌝ }
-{
-    x as u32
-}
-
 // The steps of a record of good form, one after the other, and in each its plans: the first step with a wrong word or with a plan that
 // no picks explain together with the plans before it.
 fn check_steps(
@@ -187,10 +181,9 @@ fn check_steps(
         let words = words_of(record, n, i);
         let wrong = lowest_wrong_word(words, n);
         if wrong < n {
-            return Verdict::Refused(Refusal::Word {
-                step: (i + 1) as u16,
-                plan: wrong as u16,
-            });
+            let step = (i + 1) as u16;
+            let plan = wrong as u16;
+            return Verdict::Refused(Refusal::Word { step, plan });
         }
         let old = states_before(&idle, record, n, i);
         let shown = states_of(record, n, i);
@@ -210,12 +203,12 @@ fn check_steps(
         i += 1;
     }
     if bad_step == 0 {
-        return Verdict::Accepted(steps as u16);
+        let count = steps as u16;
+        return Verdict::Accepted(count);
     }
-    Verdict::Refused(Refusal::Unexplained {
-        step: bad_step as u16,
-        plan: bad_plan as u16,
-    })
+    let step = bad_step as u16;
+    let plan = bad_plan as u16;
+    Verdict::Refused(Refusal::Unexplained { step, plan })
 }
 
 // Check 13, for a table of n plans.

@@ -412,7 +412,7 @@ pub fn next_child(
 }
 
 // A byte as a rank: named, so that a reader of it has its bound.
-fn wide(x: u8) -> u32
+pub fn wide(x: u8) -> u32
     ensures { λ r. ⌜ r ≡ x ⌝ }
 {
     x as u32

@@ -12,10 +12,13 @@ use Rattle.rules.specs.Record.{ExplainedFirst}
 use Rattle.rules.specs.Answers.{StepPasses, Judged}
 use Rattle.rules.specs.declared.Refusal.the-variants.{Unexplained}
 use Rattle.rules.specs.declared.Verdict.the-variants as verdict
+use Rattle.step.specs.Calls.{Ready}
 use Rattle.step.proofs.Scenes.{rooted, narrow, codes, scene}
+use Rattle.record.specs.Steps.{noRank}
 use Rattle.record.proofs.Form.{few}
 use Rattle.record.proofs.Steps.{
   idle-part,
+  Here,
   there,
   words-long,
   shown-long,
@@ -50,69 +53,51 @@ abbrev μ-search : tie.MeasureT-search
 search-holds : tie.Need-search-holds Inv-loop μ-loop Inv-search μ-search
 search-holds c = (omega arith, refl, refl, λ j l. absurd (omega arith))
 
-words-of-requires : tie.Need-words-of-requires Inv-loop μ-loop Inv-search μ-search
-words-of-requires c κs =
+-- where the search stands
+here :
+    (c : tie.In-search Inv-loop μ-loop Inv-search μ-search)
+    → Here (now (c .before .before .before .before .before .before .args .table)) (now (c .before .before .before .before .before .before .args .«record»)) (now (c .before .before .before .before .before .before .args .ranks)) (now (c .before .before .before .before .before .before .args .names)) (c .before .before .before .before .before .before .args .n) (c .before .before .before .before .before .before .args .steps) (c .before .search .i)
+here c =
     let pre = c .before .before .before .before .before .before .pre in
-    let t = now (c .before .before .before .before .before .before .args .table) in
-    there _ _ _ _ (pre .0) _ _ _ (pre .1 .0) (pre .1 .1) (c .search-test .taken)
-
-lowest-wrong-word-requires : tie.Need-lowest-wrong-word-requires Inv-loop μ-loop Inv-search μ-search
-lowest-wrong-word-requires c κs =
-    let pre = c .before .before .before .before .before .before .before .pre in
-    let t = now (c .before .before .before .before .before .before .before .args .table) in
-    omega
-    (arith, words-long _ _ _ _ (pre .0) _ _ _ (pre .1 .0) (pre .1 .1) (c .before .search-test .taken) _ (c .words-of .ensures t (pre .1 .0)))
-
-cast-t21 : tie.Need-cast-t21 Inv-loop μ-loop Inv-search μ-search
-cast-t21 c =
-    let pre = c .before .before .before .before .before .before .before .before .before .pre in
-    let t = now (c .before .before .before .before .before .before .before .before .before .args .table) in
-    omega (arith, step-fits _ _ _ _ (pre .0) _ _ _ (pre .1 .0) (pre .1 .1) (c .before .before .before .search-test .taken))
-
-cast-t22 : tie.Need-cast-t22 Inv-loop μ-loop Inv-search μ-search
-cast-t22 c =
-    let pre = c .before .before .before .before .before .before .before .before .before .pre in
-    let t = now (c .before .before .before .before .before .before .before .before .before .args .table) in
-    omega (arith, c .if1 .taken, few-plans _ _ _ _ (pre .0) _ _ _ (pre .1 .0) (pre .1 .1) (c .before .before .before .search-test .taken))
+    record {
+      sound = pre .0;
+      whole = pre .1 .0;
+      count = pre .1 .1;
+      inside = c .search-test .taken;
+      before = c .before .search .inv .3;
+    }
 
 returns : tie.Need-returns Inv-loop μ-loop Inv-search μ-search
 returns c =
-    let pre = c .before .before .before .before .before .before .before .before .before .pre in
-    let t = now (c .before .before .before .before .before .before .before .before .before .args .table) in
-    stops-at-word _ _ _ _ (pre .0) _ _ _ (pre .1 .0) (pre .1 .1) (c .before .before .before .search-test .taken) (c .before .before .before .before .search .inv .3) _
-    (c .before .before .words-of .ensures t (pre .1 .0)) _ (c .before .lowest-wrong-word .ensures) (c .if1 .taken)
+    let at = here (c .before .before .before) in
+    stops-at-word at _ (c .before .before .words-of .ensures (now (c .before .before .before .before .before .before .before .before .before .args .table)) (at .whole)) _ (c .before .lowest-wrong-word .ensures) (c .if1 .taken)
 
 states-before-requires : tie.Need-states-before-requires Inv-loop μ-loop Inv-search μ-search
 states-before-requires c κs =
-    let pre = c .before .before .before .before .before .before .before .before .before .before .pre in
-    let t = now (c .before .before .before .before .before .before .before .before .before .before .args .table) in
-    let small = few-plans _ _ _ _ (pre .0) _ _ _ (pre .1 .0) (pre .1 .1) (c .before .before .before .before .search-test .taken) in (
-      omega (arith, small),
-      idle-part _ 256 0 small,
-      omega (arith, there _ _ _ _ (pre .0) _ _ _ (pre .1 .0) (pre .1 .1) (c .before .before .before .before .search-test .taken)),
-    )
+    let at = here (c .before .before .before .before) in
+    (omega (arith, few-plans at), idle-part _ 256 0 (few-plans at), omega (arith, there at))
 
-states-of-requires : tie.Need-states-of-requires Inv-loop μ-loop Inv-search μ-search
-states-of-requires c κs =
-    let pre = c .before .before .before .before .before .before .before .before .before .before .before .pre in
-    let t = now (c .before .before .before .before .before .before .before .before .before .before .before .args .table) in
-    there _ _ _ _ (pre .0) _ _ _ (pre .1 .0) (pre .1 .1) (c .before .before .before .before .before .search-test .taken)
+-- what the plans' moves read of the step
+moves :
+    (c : tie.After-states-before Inv-loop μ-loop Inv-search μ-search)
+    → Ready (now (c .before .before .before .before .before .before .before .before .before .before .before .args .table)) (now (c .states-before .result)) (now (c .before .before .before .before .words-of .result)) (now (c .before .before .before .before .before .before .before .before .before .before .before .args .ranks)) (now (c .before .before .before .before .before .before .before .before .before .before .before .args .names))
+moves c =
+    let at = here (c .before .before .before .before .before) in
+    ready at _ _ (c .states-before .ensures (now (c .before .before .before .before .before .before .before .before .before .before .before .args .table)) (at .whole)) (c .before .before .before .before .words-of .ensures (now (c .before .before .before .before .before .before .before .before .before .before .before .args .table)) (at .whole))
 
 survey-requires : tie.Need-survey-requires Inv-loop μ-loop Inv-search μ-search
 survey-requires c κs =
-    let pre = c .before .before .before .before .before .before .before .before .before .before .before .before .before .pre in
-    let t = now (c .before .before .before .before .before .before .before .before .before .before .before .before .before .args .table) in
-    let whole = pre .1 .0 in
-    let moves = ready _ _ _ _ (pre .0) _ _ _ whole (pre .1 .1) (c .before .before .before .before .before .before .before .search-test .taken) (c .before .before .before .before .before .before .before .before .search .inv .3) _ _ (c .before .before .states-before .ensures t whole) (c .before .before .before .before .before .before .words-of .ensures t whole) in
-    let tree = rooted _ (moves .prepared .done) _ whole in (
+    let whole = here (c .before .before .before .before .before .before .before) .whole in
+    let own = moves (c .before .before) in
+    let tree = rooted _ (own .prepared .done) _ whole in (
       tree,
       (
-        narrow _ _ _ _ _ moves _ whole,
+        narrow _ _ _ _ _ own _ whole,
         (
-          codes _ _ _ _ _ moves _ whole,
+          codes _ _ _ _ _ own _ whole,
           (
-            omega (arith, tree .small, moves .prepared .ranks-room),
-            omega (arith, whole, moves .passes .long),
+            omega (arith, tree .small, own .prepared .ranks-room),
+            omega (arith, whole, own .passes .long),
             omega (arith, tree .small, c .before .before .before .before .before .before .before .before .search .inv .2),
           ),
         ),
@@ -121,75 +106,58 @@ survey-requires c κs =
 
 choose-requires : tie.Need-choose-requires Inv-loop μ-loop Inv-search μ-search
 choose-requires c κs =
-    let pre = c .before .before .before .before .before .before .before .before .before .before .before .before .before .before .before .before .pre in
-    let t = now (c .before .before .before .before .before .before .before .before .before .before .before .before .before .before .before .before .args .table) in
-    let whole = pre .1 .0 in
-    let moves = ready _ _ _ _ (pre .0) _ _ _ whole (pre .1 .1) (c .before .before .before .before .before .before .before .before .before .before .search-test .taken) (c .before .before .before .before .before .before .before .before .before .before .before .search .inv .3) _ _ (c .before .before .before .before .before .states-before .ensures t whole) (c .before .before .before .before .before .before .before .before .before .words-of .ensures t whole) in
-    let tree = rooted _ (moves .prepared .done) _ whole in (
-      (whole, tree, narrow _ _ _ _ _ moves _ whole),
+    let at = here (c .before .before .before .before .before .before .before .before .before .before) in
+    let whole = at .whole in
+    let own = moves (c .before .before .before .before .before) in
+    let tree = rooted _ (own .prepared .done) _ whole in (
+      (whole, tree, narrow _ _ _ _ _ own _ whole),
       (
         (
-          omega (arith, tree .small, moves .prepared .ranks-room),
-          omega (arith, whole, moves .passes .long),
-          omega (arith, shown-long _ _ _ _ (pre .0) _ _ _ whole (pre .1 .1) (c .before .before .before .before .before .before .before .before .before .before .search-test .taken) _ (c .before .before .before .before .states-of .ensures t whole)),
+          omega (arith, tree .small, own .prepared .ranks-room),
+          omega (arith, whole, own .passes .long),
+          omega (arith, shown-long at _ (c .before .before .before .before .states-of .ensures (now (c .before .before .before .before .before .before .before .before .before .before .before .before .before .before .before .before .args .table)) whole)),
           omega (arith, tree .small),
         ),
-        λ q l. getD-replicate {A = ℕ} 256 q 64 0 (omega (arith, tree .small)),
+        λ q l. getD-replicate {A = ℕ} 256 q noRank 0 (omega (arith, tree .small)),
       ),
     )
-
-loop-holds : tie.Need-loop-holds Inv-loop μ-loop Inv-search μ-search
-loop-holds c =
-    let pre = c .before .before .before .before .before .before .before .before .before .before .before .before .before .before .before .before .before .before .pre in
-    let t = now (c .before .before .before .before .before .before .before .before .before .before .before .before .before .before .before .before .before .before .args .table) in
-    (omega arith, c .before .before .before .before .before .before .before .before .before .before .before .before .before .search .inv .1, none-so-far _ _ _ _ (pre .0) _ _ _ (pre .1 .0) (pre .1 .1) (c .before .before .before .before .before .before .before .before .before .before .before .before .search-test .taken) (c .before .before .before .before .before .before .before .before .before .before .before .before .before .search .inv .3))
 
 next-shown-requires : tie.Need-next-shown-requires Inv-loop μ-loop Inv-search μ-search
 next-shown-requires c κs =
-    let pre = c .before .before .before .before .before .before .before .before .before .before .before .before .before .before .before .before .before .before .before .before .before .before .pre in
-    let t = now (c .before .before .before .before .before .before .before .before .before .before .before .before .before .before .before .before .before .before .before .before .before .before .args .table) in
-    let whole = pre .1 .0 in
-    let moves = ready _ _ _ _ (pre .0) _ _ _ whole (pre .1 .1) (c .before .before .before .before .before .before .before .before .before .before .before .before .before .before .before .before .search-test .taken) (c .before .before .before .before .before .before .before .before .before .before .before .before .before .before .before .before .before .search .inv .3) _ _ (c .before .before .before .before .before .before .before .before .before .before .before .states-before .ensures t whole) (c .before .before .before .before .before .before .before .before .before .before .before .before .before .before .before .words-of .ensures t whole) in
-    let survey = c .before .before .before .before .before .before .before .before .survey .ensures in
-    let small = few-plans _ _ _ _ (pre .0) _ _ _ whole (pre .1 .1) (c .before .before .before .before .before .before .before .before .before .before .before .before .before .before .before .before .search-test .taken) in
-    let long = shown-long _ _ _ _ (pre .0) _ _ _ whole (pre .1 .1) (c .before .before .before .before .before .before .before .before .before .before .before .before .before .before .before .before .search-test .taken) _ (c .before .before .before .before .before .before .before .before .before .before .states-of .ensures t whole) in (
-      scene _ _ _ _ _ moves _ whole _ (survey .0) (omega (arith, small, survey .1 .long, c .before .before .before .before .before .before .before .before .before .before .before .before .before .before .before .before .before .search .inv .2)),
+    let at = here (c .before .before .before .before .before .before .before .before .before .before .before .before .before .before .before .before) in
+    let whole = at .whole in
+    let survey = c .before .before .before .before .before .before .before .before .survey .ensures in (
+      scene _ _ _ _ _ (moves (c .before .before .before .before .before .before .before .before .before .before .before)) _ whole _ (survey .0) (omega (arith, few-plans at, survey .1 .long, c .before .before .before .before .before .before .before .before .before .before .before .before .before .before .before .before .before .search .inv .2)),
       (
         c .before .before .before .before .before .choose .ensures,
-        (omega (arith, whole, c .before .before .loop-test .taken), omega (arith, whole, long), omega arith),
+        (
+          omega (arith, whole, c .before .before .loop-test .taken),
+          omega (arith, whole, shown-long at _ (c .before .before .before .before .before .before .before .before .before .before .states-of .ensures (now (c .before .before .before .before .before .before .before .before .before .before .before .before .before .before .before .before .before .before .before .before .before .before .args .table)) whole)),
+          omega arith,
+        ),
       ),
     )
 
-shared-slice-read-if2 : tie.Need-shared-slice-read-if2 Inv-loop μ-loop Inv-search μ-search
-shared-slice-read-if2 c =
-    let pre = c .before .before .before .before .before .before .before .before .before .before .before .before .before .before .before .before .before .before .before .before .before .before .before .before .before .pre in
-    let t = now (c .before .before .before .before .before .before .before .before .before .before .before .before .before .before .before .before .before .before .before .before .before .before .before .before .before .args .table) in
-    let whole = pre .1 .0 in
-    omega (arith, c .before .before .before .before .before .loop-test .taken, shown-long _ _ _ _ (pre .0) _ _ _ whole (pre .1 .1) (c .before .before .before .before .before .before .before .before .before .before .before .before .before .before .before .before .before .before .before .search-test .taken) _ (c .before .before .before .before .before .before .before .before .before .before .before .before .before .states-of .ensures t whole))
-
 loop-again : tie.Need-loop-again Inv-loop μ-loop Inv-search μ-search
 loop-again c =
-    let pre = c .before .before .before .before .before .before .before .before .before .before .before .before .before .before .before .before .before .before .before .before .before .before .before .before .before .before .pre in
-    let t = now (c .before .before .before .before .before .before .before .before .before .before .before .before .before .before .before .before .before .before .before .before .before .before .before .before .before .before .args .table) in
-    let whole = pre .1 .0 in
-    let at = c .before .before .before .before .before .before .before .loop in (
+    let at = here (c .before .before .before .before .before .before .before .before .before .before .before .before .before .before .before .before .before .before .before .before) in
+    let whole = at .whole in
+    let inv = c .before .before .before .before .before .before .before .loop .inv in (
       omega arith,
-      at .inv .1,
-      goes-on _ _ _ _ (pre .0) _ _ _ whole (pre .1 .1) (c .before .before .before .before .before .before .before .before .before .before .before .before .before .before .before .before .before .before .before .before .search-test .taken) (c .before .before .before .before .before .before .before .before .before .before .before .before .before .before .before .before .before .before .before .before .before .search .inv .3) _ _ _ (c .before .before .before .before .before .before .before .before .before .before .before .before .before .before .before .states-before .ensures t whole) (c .before .before .before .before .before .before .before .before .before .before .before .before .before .before .before .before .before .before .before .words-of .ensures t whole) (c .before .before .before .before .before .before .before .before .before .before .before .before .before .before .states-of .ensures t whole) _ _ (c .before .before .before .before .before .before .loop-test .taken)
-          (c .before .before .to-byte .ensures ∙ ap code (c .before .before .before .next-shown .ensures)) (at .inv .2) (c .if2 .left),
+      inv .1,
+      goes-on at _ _ _ (c .before .before .before .before .before .before .before .before .before .before .before .before .before .before .before .states-before .ensures (now (c .before .before .before .before .before .before .before .before .before .before .before .before .before .before .before .before .before .before .before .before .before .before .before .before .before .before .args .table)) whole) (c .before .before .before .before .before .before .before .before .before .before .before .before .before .before .before .before .before .before .before .words-of .ensures (now (c .before .before .before .before .before .before .before .before .before .before .before .before .before .before .before .before .before .before .before .before .before .before .before .before .before .before .args .table)) whole) (c .before .before .before .before .before .before .before .before .before .before .before .before .before .before .states-of .ensures (now (c .before .before .before .before .before .before .before .before .before .before .before .before .before .before .before .before .before .before .before .before .before .before .before .before .before .before .args .table)) whole) _ _ (c .before .before .before .before .before .before .loop-test .taken)
+          (c .before .before .to-byte .ensures ∙ ap code (c .before .before .before .next-shown .ensures)) (inv .2) (c .if2 .left),
     )
 
 search-again : tie.Need-search-again Inv-loop μ-loop Inv-search μ-search
 search-again c =
-    let pre = c .before .before .before .before .before .before .before .before .before .before .before .before .before .before .before .before .before .before .before .before .pre in
-    let t = now (c .before .before .before .before .before .before .before .before .before .before .before .before .before .before .before .before .before .before .before .before .args .table) in
-    let whole = pre .1 .0 in
-    let at = c .before .loop in (
+    let at = here (c .before .before .before .before .before .before .before .before .before .before .before .before .before .before) in
+    let inv = c .before .loop .inv in (
       omega arith,
-      at .inv .1,
+      inv .1,
       c .before .before .before .before .before .before .survey .ensures .1 .long ∙ c .before .before .before .before .before .before .before .before .before .before .before .before .before .before .before .search .inv .2,
-      one-more _ _ _ _ (pre .0) _ _ _ whole (pre .1 .1) (c .before .before .before .before .before .before .before .before .before .before .before .before .before .before .search-test .taken) (c .before .before .before .before .before .before .before .before .before .before .before .before .before .before .before .search .inv .3) _ (omega (arith, at .inv .0, c .loop-test .left))
-          (words-pass _ _ _ _ (pre .0) _ _ _ whole (pre .1 .1) (c .before .before .before .before .before .before .before .before .before .before .before .before .before .before .search-test .taken) (c .before .before .before .before .before .before .before .before .before .before .before .before .before .before .before .search .inv .3) _ (c .before .before .before .before .before .before .before .before .before .before .before .before .before .words-of .ensures t whole) _ (c .before .before .before .before .before .before .before .before .before .before .before .before .lowest-wrong-word .ensures) (c .before .before .before .before .before .before .before .before .before .before .before .if1 .left)) (at .inv .2),
+      one-more at _ (omega (arith, inv .0, c .loop-test .left))
+          (words-pass at _ (c .before .before .before .before .before .before .before .before .before .before .before .before .before .words-of .ensures (now (c .before .before .before .before .before .before .before .before .before .before .before .before .before .before .before .before .before .before .before .before .args .table)) (at .whole)) _ (c .before .before .before .before .before .before .before .before .before .before .before .before .lowest-wrong-word .ensures) (c .before .before .before .before .before .before .before .before .before .before .before .if1 .left)) (inv .2),
     )
 
 -- the search was left at a plan that no picks explain
@@ -202,26 +170,25 @@ stopped :
     (c : tie.Left-search Inv-loop μ-loop Inv-search μ-search) → (c .search-test .bad-step ≡ 0 → ⊥)
     → Stopped (now (c .before .before .before .before .before .before .args .table)) (now (c .before .before .before .before .before .before .args .«record»)) (c .search-test .bad-step) (c .search-test .bad-plan)
 stopped c found =
-    let pre = c .before .before .before .before .before .before .pre in
     let t = now (c .before .before .before .before .before .before .args .table) in
-    let whole = pre .1 .0 in
-    let at = c .before .search in
     ⊎-elim
-    (λ w. absurd (found (w .1 ∙ at .inv .1)))
+    (λ w. absurd (found (w .1 ∙ c .before .search .inv .1)))
     (λ w.
+    let at = here (record { before = c .before; search-test = w .0 }) in
+    let whole = at .whole in
     rw (w .21, w .22)
     (record {
-      step-small = step-fits _ _ _ _ (pre .0) _ _ _ whole (pre .1 .1) (w .0 .taken);
-      plan-small = omega (arith, w .14 .taken, few-plans _ _ _ _ (pre .0) _ _ _ whole (pre .1 .1) (w .0 .taken));
+      step-small = step-fits at;
+      plan-small = omega (arith, w .14 .taken, few-plans at);
       judged =
-          stops-at-plan _ _ _ _ (pre .0) _ _ _ whole (pre .1 .1) (w .0 .taken) (at .inv .3) _ _ _ (w .5 .ensures t whole) (w .1 .ensures t whole) (w .6 .ensures t whole) _ _ (w .14 .taken)
+          stops-at-plan at _ _ _ (w .5 .ensures t whole) (w .1 .ensures t whole) (w .6 .ensures t whole) _ _ (w .14 .taken)
           (w .18 .ensures ∙ ap code (w .17 .ensures)) (w .13 .inv .2) (w .20 .taken)
-          (words-pass _ _ _ _ (pre .0) _ _ _ whole (pre .1 .1) (w .0 .taken) (at .inv .3) _ (w .1 .ensures t whole) _ (w .2 .ensures) (w .3 .left));
+          (words-pass at _ (w .1 .ensures t whole) _ (w .2 .ensures) (w .3 .left));
     }))
     (c .search-test .came)
 
-cast-t40 : tie.Need-cast-t40 Inv-loop μ-loop Inv-search μ-search
-cast-t40 c = omega (arith, few _ _ (c .before .before .before .before .before .before .before .pre .0 .done), c .before .before .before .before .before .before .before .pre .1 .1)
+cast-count : tie.Need-cast-count Inv-loop μ-loop Inv-search μ-search
+cast-count c = omega (arith, few _ _ (c .before .before .before .before .before .before .before .pre .0 .done), c .before .before .before .before .before .before .before .pre .1 .1)
 
 returns-2 : tie.Need-returns-2 Inv-loop μ-loop Inv-search μ-search
 returns-2 c =
@@ -238,33 +205,33 @@ check-steps-spec =
     Inv-search
     μ-search
     search-holds
-    words-of-requires
-    lowest-wrong-word-requires
+    (λ c κs. there (here c))
+    (λ c κs. omega (arith, words-long (here (c .before)) _ (c .words-of .ensures (now (c .before .before .before .before .before .before .before .args .table)) (here (c .before) .whole))))
     (λ c. omega arith)
-    cast-t21
-    cast-t22
+    (λ c. omega (arith, step-fits (here (c .before .before .before))))
+    (λ c. omega (arith, c .if1 .taken, few-plans (here (c .before .before .before))))
     returns
     (λ c. search needs)
     states-before-requires
-    states-of-requires
+    (λ c κs. there (here (c .before .before .before .before .before)))
     (λ c. sym (c .before .before .before .before .before .before .before .before .search .inv .2))
     survey-requires
     (λ c. search needs)
     choose-requires
-    loop-holds
+    (λ c. (omega arith, c .before .before .before .before .before .before .before .before .before .before .before .before .before .search .inv .1, none-so-far (here (c .before .before .before .before .before .before .before .before .before .before .before .before))))
     (λ c. sym (c .before .before .before .before .before .before .before .survey .ensures .1 .long ∙ c .before .before .before .before .before .before .before .before .before .before .before .before .before .before .before .before .search .inv .2))
     (λ c. search needs)
     next-shown-requires
     (λ c κs. search needs)
-    shared-slice-read-if2
-    (λ c. omega (arith, step-fits _ _ _ _ (c .before .before .before .before .before .before .before .before .before .before .before .before .before .before .before .before .before .before .before .before .before .before .before .before .before .before .pre .0) _ _ _ (c .before .before .before .before .before .before .before .before .before .before .before .before .before .before .before .before .before .before .before .before .before .before .before .before .before .before .pre .1 .0) (c .before .before .before .before .before .before .before .before .before .before .before .before .before .before .before .before .before .before .before .before .before .before .before .before .before .before .pre .1 .1) (c .before .before .before .before .before .before .before .before .before .before .before .before .before .before .before .before .before .before .before .before .search-test .taken)))
+    (λ c. omega (arith, c .before .before .before .before .before .loop-test .taken, shown-long (here (c .before .before .before .before .before .before .before .before .before .before .before .before .before .before .before .before .before .before .before)) _ (c .before .before .before .before .before .before .before .before .before .before .before .before .before .states-of .ensures (now (c .before .before .before .before .before .before .before .before .before .before .before .before .before .before .before .before .before .before .before .before .before .before .before .before .before .args .table)) (here (c .before .before .before .before .before .before .before .before .before .before .before .before .before .before .before .before .before .before .before) .whole))))
+    (λ c. omega (arith, step-fits (here (c .before .before .before .before .before .before .before .before .before .before .before .before .before .before .before .before .before .before .before .before))))
     (λ c. omega arith)
     (λ c. omega arith)
     loop-again
-    (λ c. omega (arith, step-fits _ _ _ _ (c .before .before .before .before .before .before .before .before .before .before .before .before .before .before .before .before .before .before .before .before .pre .0) _ _ _ (c .before .before .before .before .before .before .before .before .before .before .before .before .before .before .before .before .before .before .before .before .pre .1 .0) (c .before .before .before .before .before .before .before .before .before .before .before .before .before .before .before .before .before .before .before .before .pre .1 .1) (c .before .before .before .before .before .before .before .before .before .before .before .before .before .before .search-test .taken)))
+    (λ c. omega (arith, step-fits (here (c .before .before .before .before .before .before .before .before .before .before .before .before .before .before))))
     (λ c. omega arith)
     search-again
-    cast-t40
+    cast-count
     returns-2
     (λ c. omega (arith, stopped (c .before .before) (c .before .if3 .left) .step-small))
     (λ c. omega (arith, stopped (c .before .before .before) (c .before .before .if3 .left) .plan-small))
