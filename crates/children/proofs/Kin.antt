@@ -1,9 +1,9 @@
 -- Laws of children: one plan more, and what it does to a word. Assumes nothing.
 use mathlib.Core.Path.{_≡_, refl, sym, ap, _∙_}
-use mathlib.Core.List.{List, [], _∷_, _++_, map, map-append, append-nil, append-assoc}
+use mathlib.Core.List.{List, [], _∷_, _++_, map, map-append, append-nil}
 use mathlib.Core.Bool.{Bool, true, false, cond}
 use Prim.Native.Nat.{ℕ, zero, suc, _+_, _*_, _^_, _≤_, _<_}
-use native.Mathlib.Decide.{ℕ-discrete, le-ind}
+use native.Mathlib.Decide.{ℕ-discrete}
 use native.Mathlib.Numerals.{add-one}
 use native.Mathlib.Omega.{arith}
 use lib.ListN.{length, getD, set, length-append, length-map, length-set}
@@ -11,8 +11,8 @@ use lib.Seq.{getD-set-same, getD-set-other}
 use lib.Dec.{eqb}
 use borrow.Author.Tests.{eq-eqb, ne-eqb}
 use Rattle.rules.specs.Bytes.{byteAt}
-use Rattle.rules.specs.Table.{parent, isChild, childrenBefore, children, rank}
-use Rattle.children.specs.Sets.{bits, setBefore, Rooted, Beyond, Ranked, Narrow, Collected, Surveyed}
+use Rattle.rules.specs.Table.{parent, isChild, childrenBefore, rank}
+use Rattle.children.specs.Sets.{bits, setBefore, Rooted, Beyond, Ranked, Collected}
 use Rattle.children.proofs.Bits.{bit, bits-snoc, bits-fit}
 
 module _ (t : List ℕ) where

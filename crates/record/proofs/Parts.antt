@@ -1,5 +1,5 @@
 -- Where a step's words and states lie in a record. Assumes nothing.
-use Prim.Native.Nat.{ℕ, zero, suc, _+_, _*_, _-_, _/_, _%_, _≤_, _<_}
+use Prim.Native.Nat.{ℕ, zero, suc, _+_, _*_, _-_, _≤_, _<_}
 use native.Mathlib.Omega.{arith}
 use native.Mathlib.Nat.{mul-le-mul-right, suc-mul}
 use mathlib.Core.Path.{_≡_, refl, subst, _∙_}
@@ -7,7 +7,7 @@ use mathlib.Core.List.{List}
 use lib.ListN.{take, drop, replicate}
 use Rattle.rules.specs.States.{code}
 use Rattle.rules.specs.Table.{planCount}
-use Rattle.rules.specs.Record.{stepSize, wordsOf, statesOf, statesBefore}
+use Rattle.rules.specs.Record.{wordsOf, statesOf, statesBefore}
 use Rattle.rules.specs.declared.PlanState.the-variants.{Inactive}
 
 -- the parts as the code cuts them

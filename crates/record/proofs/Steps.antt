@@ -1,28 +1,24 @@
 -- Laws of one step of a record: where it lies, what the plans' moves read in it, and what is judged when it stops the search. Assumes
 -- nothing.
-use Prim.Native.Nat.{ℕ, zero, suc, _+_, _*_, _-_, _/_, _%_, _≤_, _<_}
+use Prim.Native.Nat.{ℕ, zero, suc, _+_, _*_, _-_, _≤_, _<_}
 use native.Mathlib.Omega.{arith}
-use native.Mathlib.Nat.{div-mul-le-self}
 use native.Mathlib.Numerals.{add-one}
-use mathlib.Core.Path.{_≡_, refl, sym, ap, _∙_}
+use mathlib.Core.Path.{_≡_, refl, ap, _∙_}
 use mathlib.Core.Logic.{_↔_, _⊎_, inl, inr}
-use mathlib.Core.Bool.{false, not, _||_}
 use mathlib.Core.List.{List, _∷_}
-use lib.Dec.{eqb, ltb}
 use lib.ListN.{length, take, drop, replicate, length-drop}
 use lib.Seq.{length-take-le}
-use borrow.Author.Tests.{ltb-false}
 use Rattle.rules.specs.Bytes.{byteAt}
 use Rattle.rules.specs.States.{code}
 use Rattle.rules.specs.Table.{planCount}
 use Rattle.rules.specs.Step.{newState}
-use Rattle.rules.specs.Record.{stepSize, stepCount, wordsOf, statesOf, statesBefore, ExplainedFirst}
-use Rattle.rules.specs.Answers.{badRecordWord, wrongHeader, tableCheck, recordCheck, wordsCheck, StepPasses, Judged, badWords, unexplained, accepted}
+use Rattle.rules.specs.Record.{stepCount, wordsOf, statesOf, statesBefore, ExplainedFirst}
+use Rattle.rules.specs.Answers.{badRecordWord, tableCheck, recordCheck, wordsCheck, StepPasses, Judged, badWords, unexplained, accepted}
 use Rattle.rules.specs.declared.Refusal.the-variants.{Word, Unexplained}
 use Rattle.rules.specs.declared.Outcome.the-variants.{Done, Refused}
 use Rattle.rules.specs.declared.Verdict.the-variants as verdict
-use Rattle.rules.proofs.Outcomes.{first-done, then-done, if-done, pass-at-last, stop-at-last}
-use Rattle.rules.proofs.Tree.{or-left, or-right, passes, tree}
+use Rattle.rules.proofs.Outcomes.{pass-at-last, stop-at-last}
+use Rattle.rules.proofs.Tree.{passes, tree}
 use Rattle.table.specs.Lowest.{Lowest}
 use Rattle.table.proofs.Reading.{found-at, found-none}
 use Rattle.step.specs.Calls.{Ready}

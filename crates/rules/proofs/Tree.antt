@@ -8,7 +8,6 @@ use mathlib.Core.List.{List}
 use lib.ListN.{length}
 use lib.Dec.{eqb, leb, ltb}
 use borrow.Author.Tests.{eqb-true, eqb-false, leb-false, ltb-false, not-false}
-use Rattle.rules.specs.Lists.{least}
 use Rattle.rules.specs.Table.{planCount, parent, rank, isOrIsAbove}
 use Rattle.rules.specs.Answers.{unrooted, badParent, undefinedByte, unfit, badWait, headerCheck, tableCheck, tableVerdict}
 use Rattle.rules.specs.declared.Refusal.{Refusal}

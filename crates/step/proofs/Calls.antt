@@ -1,13 +1,13 @@
 -- Laws of checks 10 to 12, and of calls that pass. Assumes nothing.
 use Prim.Native.Nat.{ℕ, _*_, _≤_, _<_}
-use mathlib.Core.Path.{_≡_, refl, sym, ap, _∙_}
-use mathlib.Core.Bool.{Bool, true, false, not, _||_}
+use mathlib.Core.Path.{_≡_, refl, sym, _∙_}
+use mathlib.Core.Bool.{true, false, not, _||_}
 use mathlib.Core.List.{List}
 use lib.Dec.{eqb}
 use lib.ListN.{length}
 use borrow.Author.Tests.{eqb-true, not-false}
 use Rattle.rules.specs.Bytes.{byteAt}
-use Rattle.rules.specs.Table.{planCount, entry, children}
+use Rattle.rules.specs.Table.{planCount, entry}
 use Rattle.rules.specs.Words.{word}
 use Rattle.rules.specs.HandedIn.{badState}
 use Rattle.rules.specs.Step.{step}
@@ -35,7 +35,7 @@ use Rattle.rules.proofs.Outcomes.{
 use Rattle.rules.proofs.Least.{nowhere}
 use Rattle.rules.proofs.Tree.{or-left, or-right}
 use Rattle.table.specs.Lowest.{Lowest}
-use Rattle.table.specs.Facts.{Facts, Checked}
+use Rattle.table.specs.Facts.{Facts}
 use Rattle.table.proofs.Reading.{found-at, found-none, prepared}
 use Rattle.step.specs.Calls.{Counted, Called, Ready}
 

@@ -1,16 +1,16 @@
 -- How one plan's move comes from what is known of it and of its parent. Assumes nothing.
-use Prim.Native.Nat.{ℕ, zero, suc, _+_, _*_, _≤_, _<_}
+use Prim.Native.Nat.{ℕ, zero, suc, _+_, _<_}
 use native.Mathlib.Omega.{arith}
 use native.Mathlib.Numerals.{add-one}
 use mathlib.Core.Path.{_≡_, refl, sym, ap, _∙_}
-use mathlib.Core.Bool.{Bool, true, false, cond, _&&_}
+use mathlib.Core.Bool.{Bool, true, false, _&&_}
 use mathlib.Core.List.{List, [], _∷_, _++_}
-use lib.Dec.{T, eqb, eqb-refl}
-use lib.ListN.{length, getD, take, set}
+use lib.Dec.{eqb, eqb-refl}
+use lib.ListN.{length, take, set}
 use lib.Seq.{getD-take, take-suc-set}
 use Rattle.rules.specs.Bytes.{byteAt}
 use Rattle.rules.specs.States.{code, stateOf, stateAt, is}
-use Rattle.rules.specs.Table.{planCount, parent, entry, named, isChild, rank}
+use Rattle.rules.specs.Table.{planCount, parent, rank}
 use Rattle.rules.specs.Words.{word, pickOf}
 use Rattle.rules.specs.Step.{
   move,

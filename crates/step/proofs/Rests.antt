@@ -1,12 +1,12 @@
 -- Laws of the run to rest: what is known while no step has been without change, and what ends it. Assumes nothing.
-use Prim.Native.Nat.{ℕ, zero, suc, _+_, _*_, _≤_, _<_}
+use Prim.Native.Nat.{ℕ, zero, suc, _+_, _≤_, _<_}
 use native.Mathlib.Omega.{arith}
 use native.Mathlib.Numerals.{add-one}
 use mathlib.Core.Path.{_≡_, refl, sym, ap, _∙_}
 use mathlib.Core.Bool.{Bool, true, false}
 use mathlib.Core.List.{List}
 use borrow.Author.Count.{below-none, below-more}
-use Rattle.rules.specs.Lists.{same, least, Found, Nowhere, At}
+use Rattle.rules.specs.Lists.{same}
 use Rattle.rules.specs.Words.{word, pickOf}
 use Rattle.rules.specs.Step.{step}
 use Rattle.rules.specs.Rest.{after, settled, leastRest, statesAt}

@@ -2,11 +2,11 @@
 use Prim.Native.Nat.{ℕ, zero, suc, _+_, _*_, _≤_, _<_}
 use native.Mathlib.Omega.{arith}
 use mathlib.Core.Path.{_≡_, refl, sym, ap, _∙_}
-use mathlib.Core.Bool.{Bool, true, false, cond, not, _||_, or-false, false≢true}
-use mathlib.Core.List.{List, [], _∷_, _++_, map, map-append, append-nil}
+use mathlib.Core.Bool.{Bool, true, false, cond, or-false, false≢true}
+use mathlib.Core.List.{List, [], _∷_, _++_, map, map-append}
 use lib.Dec.{eqb}
 use lib.ListN.{length, length-append, take}
-use borrow.Author.Tests.{eq-eqb, eqb-true, ltb-true, not-false}
+use borrow.Author.Tests.{eqb-true, ltb-true, not-false}
 use Rattle.rules.specs.Bytes.{byteAt}
 use Rattle.rules.specs.States.{code, isCode, stateOf, stateAt, is}
 use Rattle.rules.specs.Table.{planCount, parent, isChild, childrenBefore, children, rank}

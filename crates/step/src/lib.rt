@@ -1,8 +1,8 @@
 // One synchronous step and the run to rest: checks 10 to 12 of document 01, the move of one plan, and the loops above it.
 // A step costs O(n) for n plans; nothing is allocated. Assumes nothing.
 ghost use mathlib.Core.Path.{_≡_};
-ghost use mathlib.Core.Bool.{Bool, _||_};
-ghost use mathlib.Core.List.{List, []};
+ghost use mathlib.Core.Bool.{_||_};
+ghost use mathlib.Core.List.{List};
 ghost use Prim.Native.Nat.{ℕ, _+_, _*_, _<_, _≤_};
 ghost use lib.ListN.{length, getD, take};
 ghost use lib.Dec.{eqb};

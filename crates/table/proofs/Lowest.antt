@@ -1,11 +1,11 @@
 -- What the answer of a search says of `least`. Assumes nothing.
-use Prim.Native.Nat.{ℕ, zero, suc, _+_, _-_, _≤_, _<_}
+use Prim.Native.Nat.{ℕ, zero, suc, _-_, _≤_, _<_}
 use native.Mathlib.Omega.{arith}
 use native.Mathlib.Nat.{sub-zero}
 use native.Mathlib.Numerals.{add-one}
-use mathlib.Core.Path.{_≡_, refl, sym, _∙_, ap}
+use mathlib.Core.Path.{_≡_, refl, _∙_, ap}
 use mathlib.Core.Bool.{Bool, true, false}
-use Rattle.rules.specs.Lists.{leastFrom, least, Found, Nowhere, At}
+use Rattle.rules.specs.Lists.{leastFrom, least, Nowhere, At}
 use Rattle.rules.proofs.Least.{least-here, least-more, least-end}
 use Rattle.table.specs.Lowest.{Lowest}
 

@@ -1,10 +1,9 @@
 -- Laws of reading a table: where the checks stop, and what is known once they are through. Assumes nothing.
 use Prim.Native.Nat.{ℕ, _+_, _*_, _≤_, _<_}
 use native.Mathlib.Omega.{arith}
-use mathlib.Core.Path.{_≡_, refl, sym, ap, _∙_}
+use mathlib.Core.Path.{_≡_, sym, ap, _∙_}
 use mathlib.Core.Bool.{Bool, not}
 use mathlib.Core.List.{List}
-use lib.Dec.{eqb}
 use lib.ListN.{length, getD}
 use borrow.Author.Tests.{eq-eqb, ne-eqb}
 use Rattle.rules.specs.Lists.{least, Nowhere, At}
@@ -13,10 +12,8 @@ use Rattle.rules.specs.Table.{planCount, entry, named, childrenBefore, children
 use Rattle.rules.specs.Answers.{badParent, undefinedByte, unfit, badWait, headerCheck, plansCheck, tableCheck}
 use Rattle.rules.specs.declared.Refusal.{Refusal}
 use Rattle.rules.specs.declared.Refusal.the-variants.{TableLength, Parent, Undefined, Unfit, Wait}
-use Rattle.rules.specs.declared.Outcome.{Outcome}
 use Rattle.rules.specs.declared.Outcome.the-variants.{Done, Refused}
 use Rattle.rules.proofs.Outcomes.{refused-not-done, pass, stop, pass-at, stop-at, pass-at-last, stop-at-last, then-next, then-stops}
-use Rattle.rules.proofs.Tree.{header}
 use Rattle.children.specs.Sets.{setBefore, setOf, Collected}
 use Rattle.table.specs.Lowest.{Lowest}
 use Rattle.table.specs.Facts.{Shaped, Known, Facts, Checked, Prepared}

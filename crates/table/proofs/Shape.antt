@@ -3,7 +3,7 @@ use Prim.Native.Nat.{ℕ, zero, suc, _+_, _-_, _*_, _≤_, _<_}
 use native.Mathlib.Omega.{arith}
 use native.Mathlib.Decide.{decLt}
 use mathlib.Core.Path.{_≡_, refl, sym, ap, _∙_}
-use mathlib.Core.Bool.{Bool, true, false, not}
+use mathlib.Core.Bool.{true, false, not}
 use mathlib.Core.List.{List}
 use lib.Dec.{eqb, leb}
 use lib.ListN.{length}
@@ -13,7 +13,7 @@ use Rattle.rules.specs.Bytes.{byteAt}
 use Rattle.rules.specs.Table.{parent, rank, isOrIsAbove}
 use Rattle.rules.specs.Answers.{unrooted, badParent}
 use Rattle.rules.proofs.Tree.{rule-down}
-use Rattle.children.specs.Sets.{Rooted, Ranked, Narrow}
+use Rattle.children.specs.Sets.{Rooted, Ranked}
 use Rattle.table.specs.Facts.{Shaped}
 use Rattle.table.specs.Lowest.{Lowest}
 

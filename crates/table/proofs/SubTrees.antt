@@ -1,7 +1,7 @@
 -- The sub tree question, case by case. Assumes nothing.
-use Prim.Native.Nat.{ℕ, suc, _+_, _-_, _≤_, _<_}
+use Prim.Native.Nat.{ℕ, suc, _-_, _≤_, _<_}
 use native.Mathlib.Omega.{arith}
-use mathlib.Core.Path.{_≡_, refl, sym, ap, _∙_}
+use mathlib.Core.Path.{_≡_, refl, ap}
 use mathlib.Core.Bool.{Bool, false, cond, _&&_, and-false}
 use mathlib.Core.List.{List, []}
 use lib.Dec.{eqb, ltb}

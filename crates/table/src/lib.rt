@@ -2,7 +2,7 @@
 // Every function that goes over the plans costs O(n) for n plans; `climbs_to` costs O(n) over a whole table. Assumes nothing.
 ghost use mathlib.Core.Path.{_≡_};
 ghost use mathlib.Core.List.{[], _∷_, map};
-ghost use Prim.Native.Nat.{ℕ, _+_, _*_, _<_, _≤_};
+ghost use Prim.Native.Nat.{_+_, _*_, _<_, _≤_};
 ghost use lib.Dec.{leb};
 ghost use lib.ListN.{length, take};
 ghost use Rattle.rules.specs.Lists.{some, same};
@@ -10,7 +10,7 @@ ghost use Rattle.rules.specs.Bytes.{byteAt};
 ghost use Rattle.rules.specs.Table.{planCount, bitOf, conditions, isOrIsAbove};
 ghost use Rattle.rules.specs.Answers.{undefinedEntry, strayAt, unfitEntry, unrooted, headerCheck, plansCheck, tableCheck, tableVerdict};
 ghost use Rattle.rules.specs.SubTree.{subTree};
-ghost use Rattle.children.specs.Sets.{Rooted, Ranked};
+ghost use Rattle.children.specs.Sets.{Rooted};
 ghost use Rattle.table.specs.Lowest.{Lowest};
 ghost use Rattle.table.specs.Facts.{Shaped, breaksEntry, breaking, Known, Checked, outside};
 use children::collect_named;

@@ -5,7 +5,7 @@ use Prim.Native.Nat.{ℕ, _-_, _*_, _^_}
 use native.Mathlib.Omega.{arith}
 use borrow.Author.Needs.{needs}
 use denote.Ref.{now}
-use lib.ListN.{length, set, length-set}
+use lib.ListN.{set, length-set}
 use lib.Seq.{getD-set-same}
 use Rattle.rules.specs.Table.{entry, named}
 use Rattle.children.proofs.Kin.{

@@ -1,9 +1,9 @@
 -- `rank_children` meets its contract: a turn at plan p adds p to its parent's children. Assumes nothing.
 use mathlib.Core.Path.{_≡_, _∙_}
-use Prim.Native.Nat.{ℕ, _-_}
+use Prim.Native.Nat.{_-_}
 use native.Mathlib.Omega.{arith}
 use denote.Ref.{now}
-use lib.ListN.{length, set, length-set}
+use lib.ListN.{set, length-set}
 use lib.Seq.{getD-set-same}
 use Rattle.children.proofs.Kin.{Ranking, RankTurn, rank-turn, ranked-none, ranked-root, beyond-none, beyond-set, beyond-trans}
 use Rattle.children.proofs.rank_children.Statement.{statement}

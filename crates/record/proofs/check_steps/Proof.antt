@@ -2,11 +2,11 @@
 use mathlib.Core.Path.{_≡_, refl, sym, ap, _∙_}
 use mathlib.Core.Logic.{⊎-elim}
 use mathlib.Core.List.{List}
-use Prim.Native.Nat.{ℕ, _+_, _*_, _-_, _≤_, _<_}
+use Prim.Native.Nat.{ℕ, _-_, _≤_, _<_}
 use native.Mathlib.Omega.{arith}
 use borrow.Author.Needs.{needs}
 use denote.Ref.{now}
-use lib.ListN.{length, getD-replicate, length-replicate}
+use lib.ListN.{length, getD-replicate}
 use Rattle.rules.specs.States.{code}
 use Rattle.rules.specs.Record.{ExplainedFirst}
 use Rattle.rules.specs.Answers.{StepPasses, Judged}

@@ -1,13 +1,9 @@
 -- `choose` meets its contract: each plan, from the last down, may change its parent's rank. Assumes nothing.
-use mathlib.Core.Path.{_≡_, refl, ap, sym, _∙_}
-use Prim.Native.Nat.{ℕ, suc, _-_, _≤_, _<_}
+use mathlib.Core.Path.{_≡_, refl}
+use Prim.Native.Nat.{_-_, _≤_, _<_}
 use native.Mathlib.Omega.{arith}
 use borrow.Author.Needs.{needs}
-use denote.Ref.{now}
-use lib.Dec.{eqb}
-use lib.ListN.{length, length-set, getD}
-use Rattle.rules.specs.States.{code}
-use Rattle.rules.specs.declared.PlanState.the-variants.{Ready, Activated}
+use lib.ListN.{length, length-set}
 use Rattle.record.specs.Steps.{preferred}
 use Rattle.record.proofs.Chosen.{Passed, none-passed, one-turn, all-passed}
 use Rattle.record.proofs.choose.Statement.{statement}

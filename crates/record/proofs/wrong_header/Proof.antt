@@ -1,5 +1,4 @@
 -- `wrong_header` meets its contract: a short record, and the parts of a longer one. Assumes nothing.
-use mathlib.Core.Path.{_≡_, _∙_}
 use borrow.Author.Needs.{needs}
 use denote.Ref.{now}
 use Rattle.record.proofs.Form.{short-header, long-header}

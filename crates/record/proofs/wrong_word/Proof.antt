@@ -1,5 +1,4 @@
 -- `wrong_word` meets its contract: the three tests of a word. Assumes nothing.
-use mathlib.Core.Path.{refl}
 use borrow.Author.Needs.{needs}
 use Rattle.rules.specs.Answers.{badRecordWord}
 use Rattle.record.proofs.wrong_word.Statement.{statement}

@@ -1,5 +1,5 @@
 -- `check_call` meets its contract: the table's checks, then those of what is lent with it. Assumes nothing.
-use mathlib.Core.Path.{_≡_, sym, _∙_}
+use mathlib.Core.Path.{sym, _∙_}
 use native.Mathlib.Omega.{arith}
 use borrow.Author.Needs.{needs}
 use Rattle.step.proofs.Calls.{call-refused, call-lent}

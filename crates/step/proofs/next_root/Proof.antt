@@ -1,5 +1,4 @@
 -- `next_root` meets its contract: the root moves as under a parent that stays Activated. Assumes nothing.
-use native.Mathlib.Omega.{arith}
 use Rattle.step.proofs.Moves.{own}
 use Rattle.step.proofs.next_root.Statement.{statement}
 use Rattle.step.proofs.next_root.Tie as tie

@@ -1,9 +1,8 @@
 -- `settle` meets its contract: no step so far was without change, until one is or the budget is used. Assumes nothing.
-use mathlib.Core.Path.{_≡_, refl, sym, ap, _∙_}
-use Prim.Native.Nat.{ℕ, _-_, _≤_, _<_}
+use mathlib.Core.Path.{_≡_, refl, sym, _∙_}
+use Prim.Native.Nat.{_-_, _≤_}
 use native.Mathlib.Omega.{arith}
 use borrow.Author.Needs.{needs}
-use denote.Ref.{now}
 use lib.ListN.{length}
 use Rattle.rules.proofs.Tree.{passes, tree}
 use Rattle.step.proofs.Scenes.{part-of-all}

@@ -1,5 +1,5 @@
 -- `step` meets its contract: the checks, and where they pass one step. Assumes nothing.
-use mathlib.Core.Path.{_≡_, sym, _∙_}
+use mathlib.Core.Path.{sym, _∙_}
 use native.Mathlib.Omega.{arith}
 use borrow.Author.Needs.{needs}
 use Rattle.step.proofs.Calls.{ready, step-leaves, step-steps}

@@ -1,5 +1,5 @@
 -- `step_over` meets its contract: the new states, taken over. Assumes nothing.
-use mathlib.Core.Path.{_≡_, sym, _∙_}
+use mathlib.Core.Path.{sym, _∙_}
 use native.Mathlib.Omega.{arith}
 use borrow.Author.Needs.{needs}
 use Rattle.rules.proofs.Tree.{passes, tree}

@@ -1,12 +1,9 @@
 -- `part` meets its contract: the cases of the sub tree question on a table that passes. Assumes nothing.
-use mathlib.Core.Path.{_≡_, sym, ap, _∙_}
-use Prim.Native.Nat.{ℕ}
+use mathlib.Core.Path.{sym, _∙_}
 use native.Mathlib.Omega.{arith}
 use borrow.Author.Needs.{needs}
 use denote.Ref.{now}
 use Rattle.rules.proofs.Tree.{passes, tree}
-use Rattle.table.specs.Lowest.{Lowest}
-use Rattle.table.specs.Facts.{outside}
 use Rattle.table.proofs.SubTrees.{none-of-length, none-of-plan, part-of}
 use Rattle.table.proofs.part.Statement.{statement}
 use Rattle.table.proofs.part.Tie as tie

@@ -1,7 +1,6 @@
 -- `sub_tree` meets its contract: a table that is refused has no sub trees. Assumes nothing.
-use mathlib.Core.Path.{_≡_, sym, _∙_}
+use mathlib.Core.Path.{sym, _∙_}
 use borrow.Author.Needs.{needs}
-use denote.Ref.{now}
 use Rattle.rules.proofs.Tree.{was-done, was-refused}
 use Rattle.table.proofs.SubTrees.{none-of-refused}
 use Rattle.table.proofs.sub_tree.Statement.{statement}

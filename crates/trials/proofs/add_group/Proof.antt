@@ -3,7 +3,6 @@ use Prim.Native.Nat.{_-_, _≤_}
 use lib.ListN.{length}
 use mathlib.Core.Path.{_≡_}
 use native.Mathlib.Omega.{arith}
-use borrow.Author.Needs.{needs}
 use Rattle.trials.proofs.add_group.Statement.{statement}
 use Rattle.trials.proofs.add_group.Tie as tie
 

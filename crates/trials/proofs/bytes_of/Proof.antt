@@ -4,7 +4,6 @@ use lib.ListN.{length}
 use lib.Seq.{length-take-le}
 use mathlib.Core.Path.{_≡_, sym}
 use native.Mathlib.Omega.{arith}
-use borrow.Author.Needs.{needs}
 use Rattle.trials.proofs.bytes_of.Statement.{statement}
 use Rattle.trials.proofs.bytes_of.Tie as tie
 

@@ -2,7 +2,6 @@
 use Prim.Native.Nat.{_-_, _≤_, _<_}
 use lib.ListN.{length}
 use native.Mathlib.Omega.{arith}
-use borrow.Author.Needs.{needs}
 use Rattle.trials.proofs.number_of.Statement.{statement}
 use Rattle.trials.proofs.number_of.Tie as tie
 

@@ -1,8 +1,7 @@
 -- `print_bytes` is safe. Assumes nothing.
-use Prim.Native.Nat.{_-_, _≤_, _<_}
+use Prim.Native.Nat.{_-_, _≤_}
 use lib.ListN.{length}
 use native.Mathlib.Omega.{arith}
-use borrow.Author.Needs.{needs}
 use Rattle.trials.proofs.print_bytes.Statement.{statement}
 use Rattle.trials.proofs.print_bytes.Tie as tie
 

@@ -1,8 +1,7 @@
 -- `stop_of` meets its contract. Assumes nothing.
-use Prim.Native.Nat.{_-_, _≤_, _<_}
+use Prim.Native.Nat.{_-_, _≤_}
 use lib.ListN.{length}
 use native.Mathlib.Omega.{arith}
-use borrow.Author.Needs.{needs}
 use Rattle.trials.proofs.stop_of.Statement.{statement}
 use Rattle.trials.proofs.stop_of.Tie as tie
 
