@@ -1,4 +1,5 @@
--- Every step of an accepted record keeps demand 3's last rules. Assumes nothing.
+-- What is known of each step of an accepted record: the states before it and after it pass check 11, and some picks lead from the
+-- one to the other. Assumes nothing.
 use Prim.Native.Nat.{ℕ, zero, suc, _+_, _*_, _<_}
 use native.Mathlib.Omega.{arith}
 use mathlib.Core.Path.{_≡_, sym, _∙_}
@@ -7,16 +8,14 @@ use lib.ListN.{drop}
 use lib.Seq.{take-all, take-take}
 use Rattle.rules.specs.Table.{planCount}
 use Rattle.rules.specs.Step.{chosen, stepUnder}
-use Rattle.rules.specs.Record.{stepSize, stepCount, wordsOf, statesOf, statesBefore, ExplainedFirst}
+use Rattle.rules.specs.Record.{stepSize, wordsOf, statesOf, statesBefore, ExplainedFirst}
 use Rattle.rules.specs.Answers.{tableCheck, recordCheck, StepPasses, Judged, accepted}
-use Rattle.rules.specs.Demands.{RulesKept}
 use Rattle.rules.specs.declared.Outcome.the-variants.{Done}
 use Rattle.rules.specs.declared.Verdict.the-variants as verdict
 use Rattle.rules.proofs.Outcomes.{first-done}
 use Rattle.demands.specs.PassesStates.{PassesStates}
 use Rattle.demands.proofs.Step.{length-step}
 use Rattle.demands.proofs.Valid.{start-passes, step-passes}
-use Rattle.demands.proofs.Kept.{step-keeps}
 
 pub table-done : (t r : List ℕ) → recordCheck t r ≡ Done → tableCheck t ≡ Done
 unfolding recordCheck
@@ -33,24 +32,30 @@ module _ (t r : List ℕ) (i : ℕ) (e : ExplainedFirst t r i (planCount t)) whe
       ∙ sym (e .agrees)
       ∙ take-all n (stepUnder t (statesBefore t r i) (wordsOf t r i) (e .pick)) (omega arith)
 
-module _ (t r : List ℕ) (done : tableCheck t ≡ Done) where
-  -- after steps that pass, the states may be handed in
-  pub before-passes : (i : ℕ) → ((j : ℕ) → j < i → StepPasses t r j) → PassesStates t (statesBefore t r i)
-  before-passes zero before = start-passes t done
-  before-passes (suc i) before =
-      let e = before i (omega arith) .states in
-      rw (whole-step t r i e)
-      (step-passes t (statesBefore t r i) (wordsOf t r i) (e .pick) done (before-passes i (λ j l. before j (omega arith))))
+-- after steps that pass, the states may be handed in
+pub before-passes :
+    (t r : List ℕ) → tableCheck t ≡ Done → (i : ℕ) → ((j : ℕ) → j < i → StepPasses t r j) → PassesStates t (statesBefore t r i)
+before-passes t r done zero before = start-passes t done
+before-passes t r done (suc i) before =
+    let e = before i (omega arith) .states in
+    rw (whole-step t r i e)
+    (step-passes t (statesBefore t r i) (wordsOf t r i) (e .pick) done (before-passes t r done i (λ j l. before j (omega arith))))
 
-  all-kept :
-      ((i : ℕ) → i < stepCount t r → StepPasses t r i) → (i : ℕ) → i < stepCount t r
-      → RulesKept t (statesBefore t r i) (statesOf t r i)
-  all-kept passes i l =
-      let e = passes i l .states in
-      rw (whole-step t r i e)
-      (step-keeps t (statesBefore t r i) (wordsOf t r i) (e .pick) done (before-passes i (λ j h. passes j (omega arith))))
+pub record AcceptedStep (t r : List ℕ) (i : ℕ) : Type 0 where
+  pub pick : ℕ → ℕ
+  pub done : tableCheck t ≡ Done
+  pub before : PassesStates t (statesBefore t r i)
+  pub after : PassesStates t (statesOf t r i)
+  pub leads : statesOf t r i ≡ stepUnder t (statesBefore t r i) (wordsOf t r i) pick
 
-pub accepted-keeps :
-    (t r : List ℕ) (k : ℕ) → Judged t r (verdict.Accepted k) → (i : ℕ) → i < stepCount t r
-    → RulesKept t (statesBefore t r i) (statesOf t r i)
-accepted-keeps t r k (accepted done passes) = all-kept t r (table-done t r done) passes
+pub accepted-step : (t r : List ℕ) (steps : ℕ) → Judged t r (verdict.Accepted steps) → (i : ℕ) → i < steps → AcceptedStep t r i
+accepted-step t r steps (accepted good passes) i l =
+    let e = passes i l .states in
+    let done = table-done t r good in
+    record {
+      pick = e .pick;
+      done = done;
+      before = before-passes t r done i (λ j h. passes j (omega arith));
+      after = before-passes t r done (suc i) (λ j h. passes j (omega arith));
+      leads = whole-step t r i e;
+    }

@@ -1,6 +1,6 @@
 -- Laws and theorems over the definitions of crate rules. The theorems: Witness and PlanByPlan (which picks explain the states
--- shown), Valid (a step keeps check 11 passed), Kept and Accepted (demand 3's last rules), Unique (one verdict). The rest leads
--- to them.
+-- shown), Valid (a step keeps check 11 passed), OneInExecution, OnlyWhileParent and EndingsKept (demand 3's last rules), Unique (one
+-- verdict). The rest leads to them.
 pub mod Numbers
 pub mod Tests
 pub mod Lists
@@ -16,6 +16,9 @@ pub mod PlanByPlan
 pub mod HandedIn
 pub mod Went
 pub mod Valid
-pub mod Kept
 pub mod Accepted
+pub mod OneInExecution
+pub mod OnlyWhileParent
+pub mod EndingsKept
+pub mod Lively
 pub mod Unique

@@ -2,3 +2,4 @@
 pub mod Least
 pub mod Outcomes
 pub mod Tree
+pub mod Same

@@ -1,4 +1,5 @@
--- Demand 3's last rules, as what is promised of a step of an accepted record, s being the states before it and shown those after it. Assumes nothing.
+-- Demand 3's last rules, as what is promised of each step of an accepted record, s being the states before it and shown those after
+-- it. Assumes nothing.
 use Prim.Native.Nat.{ℕ, _<_}
 use mathlib.Core.Bool.{Bool, true, false}
 use mathlib.Core.Path.{_≡_}
@@ -29,12 +30,17 @@ pub record Retried (t s shown : List ℕ) (a p : ℕ) : Type 0 where
   pub was : stateAt s a ≡ Aborted
   pub now : stateAt shown a ≡ Considered
 
-pub record RulesKept (t s shown : List ℕ) : Type 0 where
-  -- of the sub plans of a sequential or any-order plan at most one is in execution
-  pub one :
-      (q c d : ℕ) → T (oneAtATime (bodyOf (entry t q))) → SubPlan t q c → SubPlan t q d → T (inExecution (stateAt shown c))
-      → T (inExecution (stateAt shown d)) → c ≡ d
-  -- a sub plan is activated only while its parent is
-  pub under : (q c : ℕ) → SubPlan t q c → stateAt shown c ≡ Activated → stateAt shown q ≡ Activated
-  -- an ended plan keeps its ending unless it, or a plan above it, was retried
-  pub kept : (p : ℕ) → p < planCount t → T (ended (stateAt s p)) → (stateAt shown p ≡ stateAt s p) ⊎ ((a : ℕ) × Retried t s shown a p)
+-- of the sub plans of a sequential or any-order plan at most one is in execution
+abbrev pub AtMostOne : List ℕ → List ℕ → Type 0
+AtMostOne t shown =
+    (q c d : ℕ) → T (oneAtATime (bodyOf (entry t q))) → SubPlan t q c → SubPlan t q d → T (inExecution (stateAt shown c))
+    → T (inExecution (stateAt shown d)) → c ≡ d
+
+-- a sub plan is activated only while its parent is
+abbrev pub OnlyWhileParent : List ℕ → List ℕ → Type 0
+OnlyWhileParent t shown = (q c : ℕ) → SubPlan t q c → stateAt shown c ≡ Activated → stateAt shown q ≡ Activated
+
+-- an ended plan keeps its ending unless it, or a plan above it, was retried
+abbrev pub EndingsKept : List ℕ → List ℕ → List ℕ → Type 0
+EndingsKept t s shown =
+    (p : ℕ) → p < planCount t → T (ended (stateAt s p)) → (stateAt shown p ≡ stateAt s p) ⊎ ((a : ℕ) × Retried t s shown a p)

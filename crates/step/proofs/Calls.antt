@@ -37,6 +37,7 @@ use Rattle.rules.proofs.Tree.{or-left, or-right}
 use Rattle.table.specs.Lowest.{Lowest}
 use Rattle.table.specs.Facts.{Facts}
 use Rattle.table.proofs.Reading.{found-at, found-none, prepared}
+use Rattle.demands.specs.PassesStates.{PassesStates}
 use Rattle.step.specs.Calls.{Counted, Called, Ready}
 
 -- check 12 of plan p, from what the code has in hand
@@ -80,6 +81,28 @@ module _ (t s w : List ℕ) (n : ℕ) (whole : n ≡ planCount t) where
           ∙ pass-at _ _ _ (found-none t n whole _ r states none)
           ∙ pass-at-last _ _ (found-none t n whole _ p lowest l)
 
+-- A call that passes: its table, what is lent with it, and of that the lengths and the states.
+module _ (t s w : List ℕ) (done : callCheck t s w ≡ Done) where
+  pub table-passes : tableCheck t ≡ Done
+  unfolding callCheck
+  table-passes = first-done (tableCheck t) _ done
+
+  pub lent-passes : lentCheck t s w ≡ Done
+  unfolding callCheck
+  lent-passes = then-done (tableCheck t) _ done
+
+  pub lengths : (length s ≡ planCount t) × (length w ≡ 4 * planCount t)
+  unfolding lentCheck
+  lengths = lengths-agree s w (planCount t) (if-done _ _ (first-done _ _ lent-passes))
+
+  pub handed-in : PassesStates t s
+  unfolding lentCheck
+  handed-in =
+      record {
+        long = lengths .0;
+        unbroken = nowhere (badState t s) (planCount t) (at-done _ _ (first-done _ _ (then-done _ _ lent-passes)));
+      }
+
 -- a call's checks are its table's, and then those of what is lent with it
 module _ (t s w ranks counts names : List ℕ) where
   pub call-refused : (why : Refusal) → tableCheck t ≡ Refused why → Called t s w ranks counts names (Refused why)
@@ -91,17 +114,13 @@ module _ (t s w ranks counts names : List ℕ) where
   unfolding callCheck
   call-lent r d known e = record { is = e ∙ sym (then-next (tableCheck t) _ d); facts = λ x. known }
 
-  -- a call that passes: the plans may move
+  -- where it passes the plans may move
   pub ready : callCheck t s w ≡ Done → Facts t ranks counts names → 256 ≤ length ranks → 256 ≤ length names → Ready t s w ranks names
-  unfolding callCheck
   ready d known ranks-room names-room =
-      let lent = then-done (tableCheck t) _ d in
-      let lengths = lengths-agree s w (planCount t) (if-done _ _ (first-done _ _ lent)) in
-      let states = first-done _ _ (then-done _ _ lent) in
       record {
-        prepared = prepared t ranks counts names (first-done (tableCheck t) _ d) known ranks-room names-room;
-        passes = record { long = lengths .0; unbroken = nowhere (badState t s) (planCount t) (at-done _ _ states) };
-        words = lengths .1;
+        prepared = prepared t ranks counts names (table-passes t s w d) known ranks-room names-room;
+        passes = handed-in t s w d;
+        words = lengths t s w d .1;
       }
 
 -- what the step leaves

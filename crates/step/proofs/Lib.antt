@@ -2,7 +2,7 @@
 pub mod Broods
 pub mod Moves
 pub mod Calls
-pub mod Same
 pub mod Scenes
 pub mod HandedIn
 pub mod Rests
+pub mod Again

@@ -10,12 +10,13 @@ use Rattle.rules.specs.Lists.{same}
 use Rattle.rules.specs.Words.{word, pickOf}
 use Rattle.rules.specs.Step.{step}
 use Rattle.rules.specs.Rest.{after, settled, leastRest, statesAt}
-use Rattle.rules.specs.Answers.{callCheck, restAnswer, runAnswer, runStates}
+use Rattle.rules.specs.Answers.{tableCheck, callCheck, restAnswer, runAnswer, runStates}
 use Rattle.rules.specs.declared.Refusal.{Refusal}
 use Rattle.rules.specs.declared.Outcome.the-variants as outcome
 use Rattle.rules.specs.declared.Rest.{Rest}
 use Rattle.rules.specs.declared.Rest.the-variants.{Rested, Moving, Refused}
 use Rattle.table.proofs.Lowest.{lowest-at, lowest-none, stops-here, ends-here}
+use Rattle.demands.specs.PassesStates.{PassesStates}
 use Rattle.demands.proofs.Valid.{step-passes}
 use Rattle.step.specs.Calls.{Ready}
 
@@ -24,21 +25,21 @@ pub record Running (t s w : List ℕ) (k : ℕ) (states : List ℕ) : Type 0 whe
   pub is : states ≡ after t s w k
   pub moved : (j : ℕ) → j < k → settled t s w j ≡ false
 
--- what passes the checks goes on passing them
-module _ (t s w ranks names : List ℕ) (ready : Ready t s w ranks names) where
-  ready-next : (x : List ℕ) → Ready t x w ranks names → Ready t (step t x w) w ranks names
-  unfolding step
-  ready-next x r =
-      record {
-        prepared = r .prepared;
-        passes = step-passes t x w (λ q. pickOf (word w q)) (r .prepared .done) (r .passes);
-        words = r .words;
-      }
+-- what passes check 11 goes on passing it
+pub after-passes : (t s w : List ℕ) → tableCheck t ≡ outcome.Done → PassesStates t s → (k : ℕ) → PassesStates t (after t s w k)
+unfolding after step
+after-passes t s w done passes zero = passes
+after-passes t s w done passes (suc k) =
+    step-passes t (after t s w k) w (λ q. pickOf (word w q)) done (after-passes t s w done passes k)
 
+module _ (t s w ranks names : List ℕ) (ready : Ready t s w ranks names) where
   ready-after : (k : ℕ) → Ready t (after t s w k) w ranks names
-  unfolding after
-  ready-after zero = ready
-  ready-after (suc k) = ready-next (after t s w k) (ready-after k)
+  ready-after k =
+      record {
+        prepared = ready .prepared;
+        passes = after-passes t s w (ready .prepared .done) (ready .passes) k;
+        words = ready .words;
+      }
 
   pub ready-still : (k : ℕ) (states : List ℕ) → Running t s w k states → Ready t states w ranks names
   ready-still k states running = rw (running .is) (ready-after k)

@@ -6,7 +6,7 @@ use borrow.Author.Count.{below-none, below-more}
 use denote.Ref.{now}
 use lib.ListN.{length, getD, take}
 use lib.Seq.{getD-take, length-take-le, ext-getD}
-use Rattle.step.proofs.Same.{equal-same, differ-same}
+use Rattle.rules.proofs.Same.{equal-same, differ-same}
 use Rattle.step.proofs.unchanged.Statement.{statement}
 use Rattle.step.proofs.unchanged.Tie as tie
 

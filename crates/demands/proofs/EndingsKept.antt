@@ -1,25 +1,23 @@
--- A step from states that pass check 11 keeps demand 3's last rules, under any picks and words. Assumes nothing.
+-- 'In every accepted record, after every step: an ended plan keeps its ending unless in that step it, or a plan above it, was retried
+-- after an abort.' Assumes nothing.
 use Prim.Native.Nat.{ℕ, zero, suc, _≤_, _<_}
 use native.Mathlib.Omega.{arith}
-use mathlib.Core.Bool.{Bool, true, false, not, _&&_}
-use mathlib.Core.Path.{_≡_, refl, _∙_}
+use mathlib.Core.Bool.{not, _&&_}
+use mathlib.Core.Path.{_≡_, _∙_}
 use mathlib.Core.Logic.{_⊎_, inl, inr}
 use mathlib.Core.List.{List}
 use lib.Dec.{T, eqb, eqb-refl, eqb·suc-zero}
-use Rattle.rules.specs.States.{stateAt, is, inExecution, ended}
-use Rattle.rules.specs.Table.{planCount, parent, entry, bodyOf, retryAborted, isOrIsAbove}
-use Rattle.rules.specs.Step.{done, chosen, stepUnder}
+use Rattle.rules.specs.States.{stateAt, is, ended}
+use Rattle.rules.specs.Table.{planCount, parent, isOrIsAbove}
+use Rattle.rules.specs.Step.{chosen, stepUnder}
 use Rattle.rules.specs.HandedIn.{suits}
-use Rattle.rules.specs.Answers.{tableCheck}
-use Rattle.rules.specs.Demands.{oneAtATime, SubPlan, Retried, RulesKept}
-use Rattle.rules.specs.declared.Body.{Body}
-use Rattle.rules.specs.declared.Body.the-variants.{Leaf, Sequential, Parallel, AnyOrder, Unordered}
-use Rattle.rules.specs.declared.Outcome.the-variants.{Done}
+use Rattle.rules.specs.Record.{statesOf, statesBefore, wordsOf}
+use Rattle.rules.specs.Answers.{Judged}
+use Rattle.rules.specs.Demands.{SubPlan, Retried, EndingsKept}
 use Rattle.rules.specs.declared.PlanState.{PlanState}
-use Rattle.rules.specs.declared.PlanState.the-variants.{Considered, Activated, Aborted}
+use Rattle.rules.specs.declared.PlanState.the-variants.{Considered, Aborted}
+use Rattle.rules.specs.declared.Verdict.the-variants.{Accepted}
 use Rattle.rules.proofs.Tree.{passes, Tree, tree}
-use Rattle.demands.specs.PassesStates.{PassesStates}
-use Rattle.demands.proofs.Numbers.{not-lower}
 use Rattle.demands.proofs.Tests.{both, left, right, in-left, in-right, decide}
 use Rattle.demands.proofs.Children.{sub-plan, after-parent}
 use Rattle.demands.proofs.States.{is-it, states, pairs}
@@ -27,37 +25,9 @@ use Rattle.demands.proofs.Moves.{dormant, begins-anew, keeps-ending}
 use Rattle.demands.proofs.Step.{next, state-step}
 use Rattle.demands.proofs.HandedIn.{Valid, passes-valid}
 use Rattle.demands.proofs.Went.{root-moved, child-moved, plan-moved}
-use Rattle.demands.proofs.Valid.{step-passes}
+use Rattle.demands.proofs.Accepted.{accepted-step}
 
--- What valid states have: one at a time, and activation only under an Activated plan.
-module _ (t : List ℕ) (st : ℕ → PlanState) (v : Valid t st) where
-  execution-undone : (again : Bool) (x : PlanState) → T (inExecution x) → T (not (done again x))
-  execution-undone true = states inExecution (λ x. not (done true x)) tt
-  execution-undone false = states inExecution (λ x. not (done false x)) tt
-
-  -- sequential: after one in execution all are Inactive
-  none-later :
-      (q c d : ℕ) → bodyOf (entry t q) ≡ Sequential → SubPlan t q c → SubPlan t q d → T (inExecution (st c))
-      → T (inExecution (st d)) → c < d → ⊥
-  none-later q c d b at-c at-d x y l =
-      rw (v .later q c d b at-c at-d l (execution-undone (retryAborted (entry t q)) (st c) x)) at y
-
-  one-at-a-time :
-      (q c d : ℕ) → T (oneAtATime (bodyOf (entry t q))) → SubPlan t q c → SubPlan t q d → T (inExecution (st c))
-      → T (inExecution (st d)) → c ≡ d
-  one-at-a-time q c d h at-c at-d x y = go (bodyOf (entry t q)) refl h
-    where
-      go : (body : Body) → bodyOf (entry t q) ≡ body → T (oneAtATime body) → c ≡ d
-      go Leaf b k = absurd k
-      go Sequential b k = not-lower c d (none-later q c d b at-c at-d x y) (none-later q d c b at-d at-c y x)
-      go Parallel b k = absurd k
-      go AnyOrder b k = v .one q c d b at-c at-d x y
-      go Unordered b k = absurd k
-
-  only-while : (q c : ℕ) → SubPlan t q c → st c ≡ Activated → st q ≡ Activated
-  only-while q c p e = is-it Activated (st q) (states (λ x. suits x Activated) (is Activated) tt (st q) (rw e at (v .each q c p)))
-
--- Endings: a plan that had begun and is dormant after the step is retried, or stands under one that is.
+-- A plan that had begun and is dormant after the step was retried, or stands under one that was.
 begun-parent : (x y : PlanState) → T (suits x y) → T (not (dormant y)) → T (not (dormant x))
 begun-parent x y h k =
     pairs (λ a b. suits a b && not (dormant b)) (λ a b. not (dormant a)) tt x y (both (suits x y) (not (dormant y)) h k)
@@ -137,10 +107,8 @@ module _ (t s w : List ℕ) (pick : ℕ → ℕ) (tree : Tree t) (v : Valid t (s
   back zero (suc j) = λ h. absurd (omega arith)
   back (suc k) (suc j) = back-child k j (back k (parent t (suc j)))
 
-  ending-kept :
-      (p : ℕ) → p < planCount t → T (ended (stateAt s p))
-      → (stateAt shown p ≡ stateAt s p) ⊎ ((a : ℕ) × Retried t s shown a p)
-  ending-kept p l h = go (decide (dormant (new p)))
+  step-keeps : EndingsKept t s shown
+  step-keeps p l h = go (decide (dormant (new p)))
     where
       go :
           T (dormant (new p)) ⊎ T (not (dormant (new p)))
@@ -152,12 +120,11 @@ module _ (t s w : List ℕ) (pick : ℕ → ℕ) (tree : Tree t) (v : Valid t (s
           let m = plan-moved t s w (chosen t s pick) tree p l in
           inl (shows p l ∙ is-it (stateAt s p) (new p) (keeps-ending (m .moved) h x))
 
-pub step-keeps :
-    (t s w : List ℕ) (pick : ℕ → ℕ) → tableCheck t ≡ Done → PassesStates t s → RulesKept t s (stepUnder t s w pick)
-step-keeps t s w pick done p =
-    let after = passes-valid t (stepUnder t s w pick) (step-passes t s w pick done p) in
-    record {
-      one = one-at-a-time t (stateAt (stepUnder t s w pick)) after;
-      under = only-while t (stateAt (stepUnder t s w pick)) after;
-      kept = ending-kept t s w pick (tree t (passes t done)) (passes-valid t s p);
-    }
+pub endings-kept :
+    (t r : List ℕ) (steps : ℕ) → Judged t r (Accepted steps) → (i : ℕ) → i < steps
+    → EndingsKept t (statesBefore t r i) (statesOf t r i)
+endings-kept t r steps judged i l =
+    let step = accepted-step t r steps judged i l in
+    let s = statesBefore t r i in
+    rw (step .leads)
+    (step-keeps t s (wordsOf t r i) (step .pick) (tree t (passes t (step .done))) (passes-valid t s (step .before)))
