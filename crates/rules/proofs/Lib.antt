@@ -3,3 +3,4 @@ pub mod Least
 pub mod Outcomes
 pub mod Tree
 pub mod Same
+pub mod Unique
