@@ -2,3 +2,4 @@
 pub mod Bits
 pub mod Kin
 pub mod Sets
+pub mod Unique
