@@ -6,3 +6,4 @@ pub mod Rules
 pub mod Reading
 pub mod Descendants
 pub mod SubTrees
+pub mod Unique
