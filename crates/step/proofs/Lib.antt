@@ -6,3 +6,4 @@ pub mod Scenes
 pub mod HandedIn
 pub mod Rests
 pub mod Again
+pub mod Unique
