@@ -3,3 +3,4 @@ pub mod Parts
 pub mod Form
 pub mod Chosen
 pub mod Steps
+pub mod Unique
