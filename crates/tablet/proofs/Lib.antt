@@ -1,0 +1,2 @@
+-- Theorems over what a host program is answered.
+pub mod Unique

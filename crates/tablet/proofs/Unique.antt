@@ -1,0 +1,80 @@
+-- One answer: any two that the checker's contract permits are equal. And packing loses nothing: a host finds number, plan and step in
+-- an answer again, and a refusal's number is never 0. Assumes nothing.
+use Prim.Native.Nat.{ℕ, _/_, _%_, _^_, _<_, _≤_}
+use native.Mathlib.Omega.{arith}
+use mathlib.Core.Path.{_≡_, sym, ap, _∙_}
+use mathlib.Core.List.{List}
+use Rattle.rules.specs.Answers.{place}
+use Rattle.rules.specs.declared.Refusal.{Refusal}
+use Rattle.rules.specs.declared.Refusal.the-variants.{
+  TableShort,
+  TableMark,
+  TableVersion,
+  TableCount,
+  TableLength,
+  Parent,
+  Undefined,
+  Unfit,
+  Wait,
+  Lengths,
+  State,
+  Word,
+  RecordHeader,
+  RecordLength,
+  Unexplained,
+  InputLong,
+}
+use Rattle.demands.proofs.Unique.{judged-once}
+use Rattle.tablet.specs.Packed.{packed, packedRefusal, packedVerdict, Told}
+
+pub told-once : (t r : List ℕ) {a b : ℕ} → Told t r a → Told t r b → a ≡ b
+told-once t r x y = x .told ∙ ap packedVerdict (judged-once t r (x .judged) (y .judged)) ∙ sym (y .told)
+
+-- how a host takes an answer apart
+module _ (number step plan : ℕ) (numberFits : number < 2 ^ 16) (planFits : plan < 2 ^ 16) where
+  pub number-found : packed number step plan % 2 ^ 16 ≡ number
+  number-found = omega (arith, numberFits, planFits)
+
+  pub plan-found : packed number step plan / 2 ^ 16 % 2 ^ 16 ≡ plan
+  plan-found = omega (arith, numberFits, planFits)
+
+  pub step-found : packed number step plan / 2 ^ 32 ≡ step
+  step-found = omega (arith, numberFits, planFits)
+
+-- nothing is lost: answers that are equal have the same number, step and plan
+pub nothing-lost :
+    (number step plan number′ step′ plan′ : ℕ) → number < 2 ^ 16 → plan < 2 ^ 16 → number′ < 2 ^ 16 → plan′ < 2 ^ 16
+    → packed number step plan ≡ packed number′ step′ plan′
+    → (number ≡ number′) × (step ≡ step′) × (plan ≡ plan′)
+nothing-lost number step plan number′ step′ plan′ a b a′ b′ e = (omega arith, omega arith, omega arith)
+
+-- a refusal's number is 1 to 16
+pub refusal-number : (why : Refusal) → (0 < place why .number) × (place why .number ≤ 16)
+refusal-number TableShort = (omega arith, omega arith)
+refusal-number TableMark = (omega arith, omega arith)
+refusal-number TableVersion = (omega arith, omega arith)
+refusal-number TableCount = (omega arith, omega arith)
+refusal-number TableLength = (omega arith, omega arith)
+refusal-number (Parent p) = (omega arith, omega arith)
+refusal-number (Undefined p) = (omega arith, omega arith)
+refusal-number (Unfit p) = (omega arith, omega arith)
+refusal-number (Wait p) = (omega arith, omega arith)
+refusal-number Lengths = (omega arith, omega arith)
+refusal-number (State p) = (omega arith, omega arith)
+refusal-number (Word i p) = (omega arith, omega arith)
+refusal-number RecordHeader = (omega arith, omega arith)
+refusal-number RecordLength = (omega arith, omega arith)
+refusal-number (Unexplained i p) = (omega arith, omega arith)
+refusal-number InputLong = (omega arith, omega arith)
+
+-- so two refusals that are packed alike have the same number, step and plan,
+pub same-refusal :
+    (why why′ : Refusal) → place why .plan < 2 ^ 16 → place why′ .plan < 2 ^ 16 → packedRefusal why ≡ packedRefusal why′
+    → (place why .number ≡ place why′ .number) × (place why .step ≡ place why′ .step) × (place why .plan ≡ place why′ .plan)
+same-refusal why why′ fits fits′ e =
+    nothing-lost _ _ _ _ _ _ (omega (arith, refusal-number why .1)) fits (omega (arith, refusal-number why′ .1)) fits′ e
+
+-- and no refusal is packed as what is done, rested, still moving or accepted
+pub no-refusal :
+    (step plan : ℕ) (why : Refusal) → plan < 2 ^ 16 → place why .plan < 2 ^ 16 → packed 0 step plan ≡ packedRefusal why → ⊥
+no-refusal step plan why fits fits′ e = omega (arith, refusal-number why .0, refusal-number why .1, e)

@@ -1,0 +1,81 @@
+// The step, the run to rest and the checker for a tablet's host program written in C, on numbers and byte slices; include/asbru.h
+// declares them. Each answers one 64-bit number, which `Packed` in specs/ lays out. Nothing is allocated. Assumes nothing.
+ghost use mathlib.Core.Path.{_≡_};
+ghost use Rattle.rules.specs.Answers.{stepAnswer, stepStates, runAnswer, runStates};
+ghost use Rattle.tablet.specs.Packed.{packed, packedRefusal, packedOutcome, packedRest, packedVerdict, Told};
+use rules::Outcome;
+use rules::Refusal;
+use rules::Rest;
+use rules::Verdict;
+
+// One synchronous step over the states, or a refusal that changes none of them.
+#[no_mangle]
+pub extern "C" fn asbru_step(table: &[u8], states: &mut [u8], words: &[u8]) -> u64
+    ensures answer { λ r. ⌜ r ≡ packedOutcome (stepAnswer (now (table .entry)) (now (states .entry)) (now (words .entry))) ⌝ }
+    ensures left { λ _. ⌜ now (states .exit) ≡ stepStates (now (table .entry)) (now (states .entry)) (now (words .entry)) ⌝ }
+{
+    pack_outcome(step::step(table, states, words))
+}
+
+// Steps under held words until one more step changes nothing, or until the budget is used; or a refusal that changes no state.
+#[no_mangle]
+pub extern "C" fn asbru_rest(table: &[u8], states: &mut [u8], words: &[u8], budget: u16) -> u64
+    ensures answer { λ r. ⌜ r ≡ packedRest budget (runAnswer (now (table .entry)) (now (states .entry)) (now (words .entry)) budget) ⌝ }
+    ensures left { λ _. ⌜ now (states .exit) ≡ runStates (now (table .entry)) (now (states .entry)) (now (words .entry)) budget ⌝ }
+{
+    pack_rest(step::rest(table, states, words, budget), budget)
+}
+
+// Whether a record can come from the rules under a table.
+#[no_mangle]
+pub extern "C" fn asbru_check(table: &[u8], record: &[u8]) -> u64
+    ensures { λ r. ⌜ Told (now (table .entry)) (now («record» .entry)) r ⌝ }
+{
+    pack_verdict(record::check(table, record))
+}
+
+// What the step answers.
+fn pack_outcome(outcome: Outcome) -> u64
+    ensures { λ r. ⌜ r ≡ packedOutcome outcome ⌝ }
+{
+    match outcome {
+        Outcome::Done => pack(0, 0, 0),
+        Outcome::Refused(why) => pack_refusal(why),
+    }
+}
+
+// What the run answers under a budget.
+fn pack_rest(rest: Rest, budget: u16) -> u64
+    ensures { λ r. ⌜ r ≡ packedRest budget rest ⌝ }
+{
+    match rest {
+        Rest::Rested(k) => pack(0, k, 0),
+        Rest::Moving => pack(0, budget, 1),
+        Rest::Refused(why) => pack_refusal(why),
+    }
+}
+
+// What the checker answers.
+fn pack_verdict(verdict: Verdict) -> u64
+    ensures { λ r. ⌜ r ≡ packedVerdict verdict ⌝ }
+{
+    match verdict {
+        Verdict::Accepted(steps) => pack(0, steps, 0),
+        Verdict::Refused(why) => pack_refusal(why),
+    }
+}
+
+// The number of a refusal, and its place.
+fn pack_refusal(why: Refusal) -> u64
+    ensures { λ r. ⌜ r ≡ packedRefusal why ⌝ }
+{
+    let place = why.place();
+    pack(place.number, place.step, place.plan)
+}
+
+// A number, a step and a plan in one.
+fn pack(number: u8, step: u16, plan: u16) -> u64
+    ensures { λ r. ⌜ r ≡ packed number step plan ⌝ }
+{
+    number as u64 + plan as u64 * 65536 + step as u64 * 4294967296
+}
