@@ -83,7 +83,7 @@
  * `states` is all that is written, by asbru_step and asbru_rest, and only where the answer's number is 0: after a refusal it is as it
  * was. Nothing is allocated, nothing is kept from one call to the next, and nothing global is read or written, so calls from several
  * threads are independent as long as no thread writes a buffer that another call uses: tables may be shared, states may not.
- * Every call returns. A call takes about 21 KiB of stack, whatever it is handed. Its time grows with n, of asbru_rest with n for each
+ * Every call returns. A call takes about 22 KiB of stack, whatever it is handed. Its time grows with n, of asbru_rest with n for each
  * step taken (at most 65535), of asbru_check with the record's length.
  */
 #ifndef ASBRU_H

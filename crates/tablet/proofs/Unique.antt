@@ -33,13 +33,13 @@ told-once t r x y = x .told ∙ ap packedVerdict (judged-once t r (x .judged) (y
 -- how a host takes an answer apart
 module _ (number step plan : ℕ) (numberFits : number < 2 ^ 16) (planFits : plan < 2 ^ 16) where
   pub number-found : packed number step plan % 2 ^ 16 ≡ number
-  number-found = omega (arith, numberFits, planFits)
+  number-found = omega arith
 
   pub plan-found : packed number step plan / 2 ^ 16 % 2 ^ 16 ≡ plan
-  plan-found = omega (arith, numberFits, planFits)
+  plan-found = omega arith
 
   pub step-found : packed number step plan / 2 ^ 32 ≡ step
-  step-found = omega (arith, numberFits, planFits)
+  step-found = omega arith
 
 -- nothing is lost: answers that are equal have the same number, step and plan
 pub nothing-lost :
@@ -76,5 +76,5 @@ same-refusal why why′ fits fits′ e =
 
 -- and no refusal is packed as what is done, rested, still moving or accepted
 pub no-refusal :
-    (step plan : ℕ) (why : Refusal) → plan < 2 ^ 16 → place why .plan < 2 ^ 16 → packed 0 step plan ≡ packedRefusal why → ⊥
-no-refusal step plan why fits fits′ e = omega (arith, refusal-number why .0, refusal-number why .1, e)
+    (step plan : ℕ) (why : Refusal) → packed 0 step plan ≡ packedRefusal why → ⊥
+no-refusal step plan why e = omega (arith, refusal-number why .0, refusal-number why .1)

@@ -1,0 +1,298 @@
+/*
+ * The rules in C, tuned by hand: what host/bench.c measures the proved library against. One pass over the plans gathers, for each
+ * parent, seven counters in one 64-bit word, its first child that is not done, and its choice; a second pass moves the plans. Nothing
+ * here is proved; host/differ.rs can be run on it (`child plain`) as on the library.
+ */
+#include "plain.h"
+
+#include <string.h>
+
+enum { MOST = 256, NONE = 0xFFFF };
+enum { INACTIVE, CONSIDERED, POSSIBLE, READY, ACTIVATED, SUSPENDED, COMPLETED, ABORTED, REJECTED };
+enum { LEAF, SEQUENTIAL, PARALLEL, ANY_ORDER, UNORDERED };
+enum { FILTER = 1, SETUP = 2, SUSPEND = 4, REACTIVATE = 8, ABORT = 16, COMPLETE = 32 };
+enum { RETRY = 1, OPTIONAL = 2, NAMED = 4 };
+/* of the absent conditions, those that hold */
+enum { ABSENT_HOLD = FILTER | SETUP | REACTIVATE | COMPLETE };
+
+typedef struct {
+    uint16_t parent;
+    uint8_t body, flags, present, manual, overridable, wait;
+    uint8_t rank, children, named;
+} Plan;
+
+/* What the children of a plan are at: counters of 8 bits, each at most 64. */
+#define ONE(field) (1ull << 8 * (field))
+#define COUNT(word, field) ((unsigned)((word) >> 8 * (field)) & 0xFF)
+enum { DONE_NAMED, LOST_NAMED, NOT_ENDED, WAITING, BEGUN, EXECUTING, ABORTED_ONES };
+
+static const uint64_t counted[2][9] = {
+#define ROW(named)                                                                                                                     \
+    {                                                                                                                                  \
+        ONE(NOT_ENDED) | ONE(WAITING), ONE(NOT_ENDED) | ONE(WAITING), ONE(NOT_ENDED) | ONE(WAITING), ONE(NOT_ENDED),                   \
+            ONE(NOT_ENDED) | ONE(BEGUN) | ONE(EXECUTING), ONE(NOT_ENDED) | ONE(BEGUN) | ONE(EXECUTING),                                \
+            ONE(BEGUN) | (named) * ONE(DONE_NAMED), ONE(BEGUN) | ONE(ABORTED_ONES) | (named) * ONE(LOST_NAMED),                        \
+            (named) * ONE(LOST_NAMED)                                                                                                  \
+    }
+    ROW(0ull), ROW(1ull)
+#undef ROW
+};
+
+/* a sequential plan is done with a child in this state: without retry-aborted, and with it */
+static const uint8_t done_with[2][9] = {{0, 0, 0, 0, 0, 0, 1, 1, 1}, {0, 0, 0, 0, 0, 0, 1, 0, 1}};
+
+/* the new state under an ended parent */
+static const uint8_t cut_off[9] = {INACTIVE, REJECTED, REJECTED, REJECTED, ABORTED, ABORTED, COMPLETED, ABORTED, REJECTED};
+
+typedef struct {
+    uint64_t counts[MOST];
+    uint16_t first[MOST], choice[MOST];
+} Survey;
+
+static inline uint64_t answer(unsigned number, unsigned step, unsigned plan) {
+    return number | (uint64_t)plan << 16 | (uint64_t)step << 32;
+}
+
+static inline unsigned u16(const uint8_t *at) {
+    return at[0] | at[1] << 8;
+}
+
+static inline uint32_t word_of(const uint8_t *words, unsigned p) {
+    uint32_t x;
+    memcpy(&x, words + 4 * p, 4);
+    return x;
+}
+
+static int above(const Plan *plans, unsigned a, unsigned p) {
+    while (p > a) p = plans[p].parent;
+    return p == a;
+}
+
+/* Checks 1 to 9, and what a table gives. */
+static uint64_t read_table(const uint8_t *t, size_t length, Plan *plans) {
+    if (length < 8) return 1;
+    if (memcmp(t, "APT", 3)) return 2;
+    if (u16(t + 3) != 1) return 3;
+    unsigned n = u16(t + 5);
+    if (n < 1 || n > MOST || t[7]) return 4;
+    if (length != 8 + 8 * (size_t)n) return 5;
+    for (unsigned p = 0; p < n; p++) {
+        const uint8_t *e = t + 8 + 8 * p;
+        Plan *plan = plans + p;
+        *plan = (Plan){(uint16_t)u16(e), e[2], e[3], e[4], e[5], e[6], e[7], 0, 0, 0};
+        if (p == 0) {
+            if (plan->parent != NONE) return answer(6, 0, 0);
+        } else {
+            if (plan->parent >= p || !above(plans, plan->parent, p - 1)) return answer(6, 0, p);
+            Plan *q = plans + plan->parent;
+            if (q->children == 64) return answer(6, 0, p);
+            plan->rank = q->children++;
+            q->named += plan->flags >> 2 & 1;
+        }
+    }
+    for (unsigned p = 0; p < n; p++) {
+        const Plan *e = plans + p;
+        if (e->body > 4 || e->flags >> 3 || (e->present | e->manual | e->overridable) >> 6) return answer(7, 0, p);
+    }
+    for (unsigned p = 0; p < n; p++) {
+        const Plan *e = plans + p;
+        int leaf = e->body == LEAF;
+        if (leaf != (e->children == 0) || ((e->manual | e->overridable) & ~e->present) || (p == 0 && e->flags & NAMED)
+            || (leaf && (e->wait || e->flags & (RETRY | OPTIONAL))))
+            return answer(8, 0, p);
+    }
+    for (unsigned p = 0; p < n; p++)
+        if (plans[p].wait > plans[p].named) return answer(9, 0, p);
+    return 0;
+}
+
+static inline int contradicts(uint32_t x) {
+    return (x & ~(x >> 6) & 3) != 0;
+}
+
+/* One pass: what each plan's children are at. `shown` is NULL for a step, whose choices come from the picks. */
+static void survey(const Plan *plans, unsigned n, const uint8_t *old, const uint8_t *shown, Survey *s) {
+    memset(s->counts, 0, n * sizeof s->counts[0]);
+    memset(s->first, 0, n * sizeof s->first[0]);
+    memset(s->choice, 0, n * sizeof s->choice[0]);
+    for (unsigned p = 1; p < n; p++) {
+        unsigned q = plans[p].parent, state = old[p];
+        s->counts[q] += counted[plans[p].flags >> 2 & 1][state];
+        if (!s->first[q] && !done_with[plans[q].flags & 1][state]) s->first[q] = (uint16_t)p;
+        if (state == READY && shown) {
+            /* the lowest Ready child that is shown Activated, else the highest Ready one */
+            unsigned c = s->choice[q];
+            if (!c || shown[c] != ACTIVATED) s->choice[q] = (uint16_t)p;
+        }
+    }
+}
+
+/* The picks' choices: the Ready child of that rank, else the lowest Ready one. */
+static void choose(const Plan *plans, unsigned n, const uint8_t *old, const uint8_t *words, Survey *s) {
+    for (unsigned p = 1; p < n; p++) {
+        if (old[p] != READY) continue;
+        unsigned q = plans[p].parent;
+        if (!s->choice[q] || plans[p].rank == (word_of(words, q) >> 24 & 63)) s->choice[q] = (uint16_t)p;
+    }
+}
+
+/* The new state of plan p in execution or under a parent in execution. */
+static inline unsigned move_on(const Plan *plans, const Survey *s, unsigned p, unsigned old, uint32_t x, int held, int orders) {
+    const Plan *e = plans + p;
+    unsigned holds = x & (~(unsigned)e->manual | x >> 8);
+    holds |= e->overridable & x >> 14;
+    holds = (holds & e->present) | (ABSENT_HOLD & ~(unsigned)e->present);
+    switch (old) {
+    case INACTIVE: {
+        if (!orders) return INACTIVE;
+        const Plan *q = plans + e->parent;
+        return p == 0 || q->body != SEQUENTIAL || s->first[e->parent] == p ? CONSIDERED : INACTIVE;
+    }
+    case CONSIDERED:
+    case POSSIBLE: {
+        unsigned k = old == CONSIDERED ? FILTER : SETUP;
+        if (holds & k) return old + 1;
+        return (~(unsigned)e->present | x >> 6 | e->overridable) & k ? old : REJECTED;
+    }
+    case READY: {
+        if (!orders) return READY;
+        if (p == 0) return ACTIVATED;
+        const Plan *q = plans + e->parent;
+        uint64_t counts = s->counts[e->parent];
+        switch (q->body) {
+        case SEQUENTIAL:
+            return s->first[e->parent] == p ? ACTIVATED : READY;
+        case PARALLEL:
+            return !COUNT(counts, WAITING) || COUNT(counts, BEGUN) ? ACTIVATED : READY;
+        case ANY_ORDER:
+            if (COUNT(counts, EXECUTING) || (q->flags & RETRY && COUNT(counts, ABORTED_ONES))) return READY;
+            return s->choice[e->parent] == p ? ACTIVATED : READY;
+        default:
+            return ACTIVATED;
+        }
+    }
+    case ACTIVATED:
+    case SUSPENDED: {
+        uint64_t counts = s->counts[p];
+        if (holds & ABORT || e->named - COUNT(counts, LOST_NAMED) < e->wait) return ABORTED;
+        if (old == SUSPENDED) return !held && holds & REACTIVATE ? ACTIVATED : SUSPENDED;
+        if (held || holds & SUSPEND) return SUSPENDED;
+        int may = COUNT(counts, DONE_NAMED) >= e->wait && (!(e->flags & OPTIONAL) || !COUNT(counts, NOT_ENDED));
+        return holds & COMPLETE && may ? COMPLETED : ACTIVATED;
+    }
+    case ABORTED: {
+        if (!orders || p == 0) return ABORTED;
+        const Plan *q = plans + e->parent;
+        if (!(q->flags & RETRY)) return ABORTED;
+        return q->body != SEQUENTIAL || s->first[e->parent] == p ? CONSIDERED : ABORTED;
+    }
+    default:
+        return old;
+    }
+}
+
+/* The new state of plan p, where `now` has those of the plans before it. */
+static inline unsigned next(const Plan *plans, const Survey *s, const uint8_t *old, const uint8_t *now, const uint8_t *words, unsigned p) {
+    if (p == 0) return move_on(plans, s, 0, old[0], word_of(words, 0), 0, 1);
+    unsigned q = plans[p].parent, above_now = now[q];
+    if (above_now < ACTIVATED) return INACTIVE;
+    if (above_now > SUSPENDED) return cut_off[old[p]];
+    int held = above_now == SUSPENDED;
+    return move_on(plans, s, p, old[p], word_of(words, p), held, !held && old[q] == ACTIVATED);
+}
+
+/* Check 11. */
+static uint64_t check_states(const Plan *plans, unsigned n, const uint8_t *states) {
+    uint8_t running[MOST], undone[MOST];
+    memset(running, 0, n);
+    memset(undone, 0, n);
+    for (unsigned p = 0; p < n; p++) {
+        unsigned state = states[p];
+        if (state > REJECTED) return answer(11, 0, p);
+        if (p == 0) continue;
+        unsigned q = plans[p].parent, up = states[q];
+        int suits = up == ACTIVATED || (up == SUSPENDED && state != ACTIVATED) || state == INACTIVE
+                    || ((up == COMPLETED || up == ABORTED) && state >= COMPLETED);
+        int executing = state == ACTIVATED || state == SUSPENDED;
+        if (!suits || (plans[q].body == ANY_ORDER && executing && running[q])
+            || (plans[q].body == SEQUENTIAL && state != INACTIVE && undone[q]))
+            return answer(11, 0, p);
+        running[q] |= (uint8_t)executing;
+        undone[q] |= !done_with[plans[q].flags & 1][state];
+    }
+    return 0;
+}
+
+/* Checks 1 to 12. */
+static uint64_t check_call(const uint8_t *t, size_t t_length, const uint8_t *states, size_t s_length, const uint8_t *words,
+                           size_t w_length, Plan *plans) {
+    uint64_t bad = read_table(t, t_length, plans);
+    if (bad) return bad;
+    unsigned n = u16(t + 5);
+    if (s_length != n || w_length != 4 * n) return 10;
+    bad = check_states(plans, n, states);
+    if (bad) return bad;
+    for (unsigned p = 0; p < n; p++) {
+        uint32_t x = word_of(words, p), pick = x >> 24 & 63;
+        int allowed = plans[p].body == ANY_ORDER ? pick < plans[p].children : pick == 0;
+        if (x & 0xC0F00000 || !allowed || contradicts(x)) return answer(12, 0, p);
+    }
+    return 0;
+}
+
+static void look_ahead(const Plan *plans, unsigned n, const uint8_t *states, const uint8_t *words, uint8_t *now) {
+    Survey s;
+    survey(plans, n, states, NULL, &s);
+    choose(plans, n, states, words, &s);
+    for (unsigned p = 0; p < n; p++) now[p] = (uint8_t)next(plans, &s, states, now, words, p);
+}
+
+uint64_t plain_step(const uint8_t *table, size_t table_length, uint8_t *states, size_t states_length, const uint8_t *words,
+                    size_t words_length) {
+    Plan plans[MOST];
+    uint64_t bad = check_call(table, table_length, states, states_length, words, words_length, plans);
+    if (bad) return bad;
+    uint8_t now[MOST];
+    look_ahead(plans, (unsigned)states_length, states, words, now);
+    memcpy(states, now, states_length);
+    return 0;
+}
+
+uint64_t plain_rest(const uint8_t *table, size_t table_length, uint8_t *states, size_t states_length, const uint8_t *words,
+                    size_t words_length, uint16_t budget) {
+    Plan plans[MOST];
+    uint64_t bad = check_call(table, table_length, states, states_length, words, words_length, plans);
+    if (bad) return bad;
+    for (unsigned k = 0;; k++) {
+        uint8_t now[MOST];
+        look_ahead(plans, (unsigned)states_length, states, words, now);
+        if (!memcmp(states, now, states_length)) return answer(0, k, 0);
+        if (k == budget) return answer(0, budget, 1);
+        memcpy(states, now, states_length);
+    }
+}
+
+uint64_t plain_check(const uint8_t *table, size_t table_length, const uint8_t *record, size_t record_length) {
+    Plan plans[MOST];
+    uint64_t bad = read_table(table, table_length, plans);
+    if (bad) return bad;
+    unsigned n = u16(table + 5);
+    if (record_length < 8 || memcmp(record, "APR", 3) || u16(record + 3) != 1 || u16(record + 5) != n || record[7]) return 13;
+    size_t body = record_length - 8, size = 5 * (size_t)n, steps = body / size;
+    if (body % size || steps > 65535) return 14;
+    static const uint8_t idle[MOST];
+    const uint8_t *old = idle, *words = record + 8;
+    for (unsigned i = 1; i <= steps; i++, words += size) {
+        const uint8_t *shown = words + 4 * n;
+        for (unsigned p = 0; p < n; p++) {
+            uint32_t x = word_of(words, p);
+            if (x >> 20 || contradicts(x)) return answer(12, i, p);
+        }
+        Survey s;
+        survey(plans, n, old, shown, &s);
+        for (unsigned p = 0; p < n; p++)
+            if (next(plans, &s, old, shown, words, p) != shown[p]) return answer(15, i, p);
+        old = shown;
+    }
+    return answer(0, (unsigned)steps, 0);
+}
