@@ -249,6 +249,10 @@ impl PlanEntry {
     pub fn wait_for(self, set: u64) -> bool
         ensures { λ r. ⌜ r ≡ enough self (ones set) ⌝ }
     {
+        // m is 0 of every leaf and of most plans: nothing to count
+        if self.wait == 0 {
+            return true;
+        }
         self.wait as u32 <= u64::count_ones(set)
     }
 }

@@ -3,13 +3,13 @@ use Prim.Native.Nat.{ℕ, zero, suc, _+_, _<_}
 use native.Mathlib.Omega.{arith}
 use native.Mathlib.Numerals.{add-one}
 use mathlib.Core.Path.{_≡_, refl, sym, ap, _∙_}
-use mathlib.Core.Bool.{Bool, true, false, _&&_}
+use mathlib.Core.Bool.{Bool, true, false, _&&_, true≢false}
 use mathlib.Core.List.{List, [], _∷_, _++_}
 use lib.Dec.{eqb, eqb-refl}
 use lib.ListN.{length, take, set}
 use lib.Seq.{getD-take, take-suc-set}
 use Rattle.rules.specs.Bytes.{byteAt}
-use Rattle.rules.specs.States.{code, stateOf, stateAt, is}
+use Rattle.rules.specs.States.{code, stateOf, stateAt, oneOf, is, inExecution}
 use Rattle.rules.specs.Table.{planCount, parent, rank}
 use Rattle.rules.specs.Words.{word, pickOf}
 use Rattle.rules.specs.Step.{
@@ -28,7 +28,17 @@ use Rattle.rules.specs.Step.{
 use Rattle.rules.specs.declared.PlanEntry.{PlanEntry}
 use Rattle.rules.specs.declared.Orders.{Orders}
 use Rattle.rules.specs.declared.PlanState.{PlanState}
-use Rattle.rules.specs.declared.PlanState.the-variants.{Activated}
+use Rattle.rules.specs.declared.PlanState.the-variants.{
+  Inactive,
+  Considered,
+  Possible,
+  Ready,
+  Activated,
+  Suspended,
+  Completed,
+  Aborted,
+  Rejected,
+}
 use Rattle.step.specs.Brood.{Child, Own}
 use Rattle.step.specs.Scene.{Scene}
 
@@ -41,6 +51,34 @@ pub same-move :
     → e ≡ e′ → x ≡ x′ → lost ≡ lost′ → complete ≡ complete′ → old ≡ old′
     → move parent o e x lost complete old ≡ move parent o e′ x′ lost′ complete′ old′
 same-move parent o a b c d f = rw (a, b, c, d, f)
+
+-- a plan that is not in execution moves alike, whatever its children are at
+pub idle-move :
+    (parent : PlanState) (o : Orders) (e : PlanEntry) (x : ℕ) (lost complete : Bool) (old : PlanState) → inExecution old ≡ false
+    → move parent o e x false false old ≡ move parent o e x lost complete old
+idle-move parent o e x lost complete Inactive h = refl
+idle-move parent o e x lost complete Considered h = refl
+idle-move parent o e x lost complete Possible h = refl
+idle-move parent o e x lost complete Ready h = refl
+idle-move parent o e x lost complete Activated h = absurd (true≢false h)
+idle-move parent o e x lost complete Suspended h = absurd (true≢false h)
+idle-move parent o e x lost complete Completed h = refl
+idle-move parent o e x lost complete Aborted h = refl
+idle-move parent o e x lost complete Rejected h = refl
+
+-- one that is not Inactive, Ready or Aborted moves alike under all orders
+pub free-move :
+    (parent : PlanState) (o o′ : Orders) (e : PlanEntry) (x : ℕ) (lost complete : Bool) (old : PlanState)
+    → oneOf (Inactive ∷ Ready ∷ Aborted ∷ []) old ≡ false → move parent o e x lost complete old ≡ move parent o′ e x lost complete old
+free-move parent o o′ e x lost complete Inactive h = absurd (true≢false h)
+free-move parent o o′ e x lost complete Considered h = refl
+free-move parent o o′ e x lost complete Possible h = refl
+free-move parent o o′ e x lost complete Ready h = absurd (true≢false h)
+free-move parent o o′ e x lost complete Activated h = refl
+free-move parent o o′ e x lost complete Suspended h = refl
+free-move parent o o′ e x lost complete Completed h = refl
+free-move parent o o′ e x lost complete Aborted h = absurd (true≢false h)
+free-move parent o o′ e x lost complete Rejected h = refl
 
 -- what plan p's move reads of its own
 pub own : (t s w ranks names sets : List ℕ) → Scene t s w ranks names sets → (p : ℕ) → p < planCount t → Own t s w names sets p

@@ -2,12 +2,12 @@
 // A step costs O(n) for n plans; nothing is allocated. Assumes nothing.
 ghost use mathlib.Core.Path.{_≡_};
 ghost use mathlib.Core.Bool.{_||_};
-ghost use mathlib.Core.List.{List};
+ghost use mathlib.Core.List.{List, [], _∷_};
 ghost use Prim.Native.Nat.{ℕ, _+_, _*_, _<_, _≤_};
 ghost use lib.ListN.{length, getD, take};
 ghost use lib.Dec.{eqb};
 ghost use Rattle.rules.specs.Lists.{all, same};
-ghost use Rattle.rules.specs.States.{code, stateAt, is, inExecution, ended};
+ghost use Rattle.rules.specs.States.{code, stateAt, oneOf, is, inExecution, ended};
 ghost use Rattle.rules.specs.Table.{planCount, parent, entry, named, retryAborted, children};
 ghost use Rattle.rules.specs.Table.{rank as Table·rank};
 ghost use Rattle.rules.specs.Step.{moveOn, cutOff, move, none, ordersOf, tooManyLost, childrenComplete, firstNotDone, gateOpen, mayActivate, orders, moveOf, ordersIf, newState, step, done};
@@ -20,7 +20,8 @@ ghost use Rattle.rules.specs.Words.{pickOf, pickAllowed, otherBits, satisfiedOn
 ghost use Rattle.rules.specs.Rest.{leastRest, statesAt};
 ghost use Rattle.rules.specs.Answers.{wrongWord, badWord, lentCheck, stepAnswer, stepStates, restAnswer, runAnswer, runStates};
 ghost use Rattle.step.specs.Calls.{Counted, Tabled, Called, Ready};
-ghost use Rattle.rules.specs.declared.PlanState.the-variants.{Inactive, Activated};
+ghost use Rattle.rules.specs.declared.PlanState.the-variants.{Inactive, Activated, Aborted};
+ghost use Rattle.rules.specs.declared.PlanState.the-variants.{Ready as State·Ready};
 ghost use Rattle.step.specs.Brood.{Brood, Child, Own};
 ghost use Rattle.step.specs.Scene.{Scene};
 use children::survey;
@@ -312,6 +313,14 @@ pub fn pick_of(x: u32) -> u32
     (x >> 24) % 64
 }
 
+// Whether a plan in a state moves by orders: it is Inactive, Ready or Aborted.
+fn takes_orders(state: PlanState) -> bool
+    ensures { λ r. ⌜ r ≡ oneOf (Inactive ∷ State·Ready ∷ Aborted ∷ []) state ⌝ }
+{
+    let b = state.to_byte();
+    (b == PlanState::INACTIVE) | (b == PlanState::READY) | (b == PlanState::ABORTED)
+}
+
 // What a parent orders a child, given the parent's states before and after: nothing unless it was and stays Activated.
 fn orders_if(
     before: PlanState,
@@ -346,17 +355,15 @@ fn next_under(
     ensures { λ r. ⌜ ((choice : ℕ → ℕ) → r ≡ moveOf (now (table .entry)) (now (old .entry)) (now (words .entry)) choice parent o p) ⌝ }
 {
     let e = entry_at(table, p);
+    let x = word_at(words, p);
+    let state = PlanState::from_byte(old[p]);
+    // only a plan in execution looks at its children
+    if !is_executing(state) {
+        return moved(parent, o, e, x, false, false, state);
+    }
     let lost = too_many_lost(e, names[p], sets, p);
     let complete = children_complete(e, names[p], sets, p);
-    moved(
-        parent,
-        o,
-        e,
-        word_at(words, p),
-        lost,
-        complete,
-        PlanState::from_byte(old[p]),
-    )
+    moved(parent, o, e, x, lost, complete, state)
 }
 
 // The new state of plan 0: as under a parent that stays Activated, considers it and activates it.
@@ -399,6 +406,9 @@ pub fn next_child(
     let q = parent_at(table, p);
     let before = PlanState::from_byte(old[q]);
     let after = PlanState::from_byte(new[q]);
+    if !takes_orders(PlanState::from_byte(old[p])) {
+        return next_under(table, names, sets, old, words, p, after, no_orders());
+    }
     let o = orders_if(
         before,
         after,

@@ -1,0 +1,12 @@
+-- `takes_orders` meets its contract: a byte for each of the three states. Assumes nothing.
+use mathlib.Core.Path.{ap}
+use mathlib.Core.Bool.{or-false, or-assoc}
+use borrow.Author.Needs.{needs}
+use Rattle.step.proofs.takes_orders.Statement.{statement}
+use Rattle.step.proofs.takes_orders.Tie as tie
+
+returns : tie.Need-returns
+returns c = simp (c .to-byte .ensures, or-false, or-assoc)
+
+pub takes-orders-spec : {M : Type 1} → statement M
+takes-orders-spec = tie.close (tie.spec (λ c κs. search needs) returns)

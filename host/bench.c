@@ -1,0 +1,140 @@
+/*
+ * Times asbru_check and asbru_step beside host/plain.c, a tuned C implementation without proofs, on the same tables and accepted
+ * records in one run, and prints for each number of plans the nanoseconds for a plan and step, the record's bytes a second, and the
+ * ratio of the two. The two take turns, and the best of several turns counts.
+ *
+ *   bench [MOST STEPS]
+ */
+#define _POSIX_C_SOURCE 199309L
+#include <stdio.h>
+#include <stdlib.h>
+#include <string.h>
+#include <time.h>
+
+#include "asbru.h"
+#include "plain.h"
+
+enum { TURNS = 7, MOST_PLANS = 256 };
+
+static uint64_t seed = 88172645463325252ull;
+
+static unsigned below(unsigned limit) {
+    seed ^= seed << 13;
+    seed ^= seed >> 7;
+    seed ^= seed << 17;
+    return (unsigned)(seed >> 33) % limit;
+}
+
+static double nanoseconds(void) {
+    struct timespec t;
+    clock_gettime(CLOCK_MONOTONIC, &t);
+    return (double)t.tv_sec * 1e9 + (double)t.tv_nsec;
+}
+
+static void need(int ok, const char *what) {
+    if (!ok) {
+        fprintf(stderr, "bench: %s\n", what);
+        exit(1);
+    }
+}
+
+/*
+ * A table of n plans with all bodies, at most six children a plan. Every plan but the root can be aborted and is then retried, and
+ * those right under the root complete only with it, so that the tree goes on moving however long the record is.
+ */
+static void make_table(uint8_t *table, unsigned n, uint16_t *parents) {
+    unsigned children[MOST_PLANS] = {0};
+    memset(table, 0, 8 + 8 * (size_t)n);
+    memcpy(table, "APT\1", 4);
+    table[5] = (uint8_t)n;
+    table[6] = (uint8_t)(n >> 8);
+    parents[0] = 0xFFFF;
+    for (unsigned p = 1; p < n; p++) {
+        unsigned q = p - 1;
+        while (q > 0 && (children[q] == 6 || below(3) == 0)) q = parents[q];
+        if (children[q] == 64) q = p - 1;
+        parents[p] = (uint16_t)q;
+        children[q]++;
+    }
+    for (unsigned p = 0; p < n; p++) {
+        uint8_t *e = table + 8 + 8 * p;
+        e[0] = (uint8_t)parents[p];
+        e[1] = (uint8_t)(parents[p] >> 8);
+        e[2] = children[p] ? (uint8_t)(1 + below(4)) : 0;
+        e[3] = children[p] ? 1 : 0;
+        e[4] = p ? 0x30 : 0x20;
+    }
+}
+
+/* The words of one step: one plan in 64 is told to abort, and one in 64 of the lower ones to complete. */
+static void make_words(uint8_t *words, unsigned n, const uint16_t *parents) {
+    memset(words, 0, 4 * (size_t)n);
+    for (unsigned p = 1; p < n; p++) {
+        if (below(64) == 0) words[4 * p] |= 0x10;
+        if (parents[p] != 0 && below(64) == 0) words[4 * p] |= 0x20;
+    }
+}
+
+typedef uint64_t Step(const uint8_t *, size_t, uint8_t *, size_t, const uint8_t *, size_t);
+typedef uint64_t Check(const uint8_t *, size_t, const uint8_t *, size_t);
+
+static double time_check(Check *check, const uint8_t *table, unsigned n, const uint8_t *record, unsigned steps) {
+    double begun = nanoseconds();
+    uint64_t answer = check(table, 8 + 8 * (size_t)n, record, 8 + 5 * (size_t)n * steps);
+    double took = nanoseconds() - begun;
+    need(answer == (uint64_t)steps << 32, "a record is not accepted");
+    return took;
+}
+
+/* One call for each step of the record. */
+static double time_step(Step *step, const uint8_t *table, unsigned n, const uint8_t *record, unsigned steps) {
+    uint8_t states[MOST_PLANS] = {0};
+    double begun = nanoseconds();
+    for (unsigned i = 0; i < steps; i++) {
+        uint64_t answer = step(table, 8 + 8 * (size_t)n, states, n, record + 8 + 5 * (size_t)n * i, 4 * (size_t)n);
+        need(answer == 0, "a step is refused");
+    }
+    return nanoseconds() - begun;
+}
+
+static double least(double a, double b) {
+    return a < b ? a : b;
+}
+
+static void measure(unsigned n, unsigned steps) {
+    uint8_t table[8 + 8 * MOST_PLANS], states[MOST_PLANS] = {0};
+    uint16_t parents[MOST_PLANS];
+    make_table(table, n, parents);
+    uint8_t *record = (uint8_t *)malloc(8 + 5 * (size_t)n * steps);
+    need(record != NULL, "no memory");
+    memcpy(record, table, 8);
+    record[2] = 'R';
+    for (unsigned i = 0; i < steps; i++) {
+        uint8_t *words = record + 8 + 5 * (size_t)n * i;
+        make_words(words, n, parents);
+        need(plain_step(table, 8 + 8 * (size_t)n, states, n, words, 4 * (size_t)n) == 0, "a step is refused");
+        memcpy(words + 4 * (size_t)n, states, n);
+    }
+    double check = 1e18, plain = 1e18, step = 1e18, plain_one = 1e18;
+    unsigned calls = steps < 2000 ? steps : 2000;
+    for (int turn = 0; turn < TURNS; turn++) {
+        check = least(check, time_check(asbru_check, table, n, record, steps));
+        plain = least(plain, time_check(plain_check, table, n, record, steps));
+        step = least(step, time_step(asbru_step, table, n, record, calls));
+        plain_one = least(plain_one, time_step(plain_step, table, n, record, calls));
+    }
+    double plans = (double)n * steps, moved = (double)n * calls;
+    printf("| %u | %u | %.1f | %.1f | %.2f | %.0f | %.1f | %.1f | %.2f |\n", n, steps, check / plans, plain / plans, check / plain,
+           5 * plans / check * 1e3, step / moved, plain_one / moved, step / plain_one);
+    free(record);
+}
+
+int main(int argc, char **argv) {
+    unsigned most = argc > 1 ? (unsigned)atoi(argv[1]) : 65535;
+    static const unsigned plans[] = {3, 16, 64, 256};
+    need(most >= 1 && most <= 65535, "1 to 65535 steps");
+    printf("| plans | steps | check, ns | plain C | ratio | check, MB/s | step, ns | plain C | ratio |\n");
+    printf("|---|---|---|---|---|---|---|---|---|\n");
+    for (int k = 0; k < 4; k++) measure(plans[k], most);
+    return 0;
+}
