@@ -3,16 +3,17 @@ use Prim.Native.Nat.{ℕ, zero, suc, _+_, _<_}
 use native.Mathlib.Omega.{arith}
 use native.Mathlib.Numerals.{add-one}
 use mathlib.Core.Path.{_≡_, refl, sym, ap, _∙_}
-use mathlib.Core.Bool.{Bool, true, false, _&&_, true≢false}
+use mathlib.Core.Bool.{Bool, true, false, _&&_, _||_, true≢false}
 use mathlib.Core.List.{List, [], _∷_, _++_}
-use lib.Dec.{eqb, eqb-refl}
+use lib.Dec.{eqb, ltb, eqb-refl}
 use lib.ListN.{length, take, set}
 use lib.Seq.{getD-take, take-suc-set}
 use Rattle.rules.specs.Bytes.{byteAt}
-use Rattle.rules.specs.States.{code, stateOf, stateAt, oneOf, is, inExecution}
+use Rattle.rules.specs.States.{code, stateOf, stateAt, oneOf, is, inSelection, inExecution, ended}
 use Rattle.rules.specs.Table.{planCount, parent, rank}
 use Rattle.rules.specs.Words.{word, pickOf}
 use Rattle.rules.specs.Step.{
+  cutOff,
   move,
   chosen,
   orders,
@@ -80,6 +81,27 @@ free-move parent o o′ e x lost complete Completed h = refl
 free-move parent o o′ e x lost complete Aborted h = absurd (true≢false h)
 free-move parent o o′ e x lost complete Rejected h = refl
 
+-- what has not begun has a code below Activated's
+pub dormant-test : (state : PlanState) → ltb (code state) (code Activated) ≡ (is Inactive state || inSelection state)
+dormant-test Inactive = refl
+dormant-test Considered = refl
+dormant-test Possible = refl
+dormant-test Ready = refl
+dormant-test Activated = refl
+dormant-test Suspended = refl
+dormant-test Completed = refl
+dormant-test Aborted = refl
+dormant-test Rejected = refl
+
+-- the move under a parent that has not begun, and under one that has ended
+module _ (parent : PlanState) (o : Orders) (e : PlanEntry) (x : ℕ) (lost complete : Bool) (old : PlanState) where
+  pub dormant-move : (is Inactive parent || inSelection parent) ≡ true → Inactive ≡ move parent o e x lost complete old
+  dormant-move h = rw h refl
+
+  pub ended-move :
+      (is Inactive parent || inSelection parent) ≡ false → ended parent ≡ true → cutOff old ≡ move parent o e x lost complete old
+  ended-move d h = rw (d, h) refl
+
 -- what plan p's move reads of its own
 pub own : (t s w ranks names sets : List ℕ) → Scene t s w ranks names sets → (p : ℕ) → p < planCount t → Own t s w names sets p
 own t s w ranks names sets scene p l =
@@ -120,21 +142,18 @@ module _ (t s w : List ℕ) (choice : ℕ → ℕ) where
   -- the same, from what the code has in hand: the parent's number, its states before and after, its orders, and the move under them
   module _ (new : List ℕ) (p q : ℕ) (h : 0 < p) (is-parent : q ≡ parent t p) where
     pub child-move :
-        (before after : PlanState) (o : Orders) (r : PlanState) → before ≡ stateOf (byteAt s q) → after ≡ stateOf (byteAt new q)
-        → o ≡ ordersIf t s w choice before after q p → r ≡ moveOf t s w choice after o p → r ≡ newState t s w choice new p
-    child-move before after o r eb ea eo er =
+        (after r : PlanState) → after ≡ stateOf (byteAt new q)
+        → r ≡ moveOf t s w choice after (ordersIf t s w choice (stateAt s q) after q p) p → r ≡ newState t s w choice new p
+    child-move after r ea er =
         er
-        ∙ ap (λ (x : Orders). moveOf t s w choice after x p) eo
-        ∙ ap (λ (x : PlanState). moveOf t s w choice after (ordersIf t s w choice x after q p) p) (eb ∙ sym (state-is s q))
         ∙ ap (λ (x : PlanState). moveOf t s w choice x (ordersIf t s w choice (stateAt s q) x q p) p) (ea ∙ sym (state-is new q))
         ∙ ap
         (λ (x : ℕ). moveOf t s w choice (stateAt new x) (ordersIf t s w choice (stateAt s x) (stateAt new x) x p) p)
         is-parent
         ∙ sym (new-child new p h)
 
-    pub same-choice :
-        (r chosen : ℕ) → r ≡ rank t p → eqb (rank t p) chosen ≡ eqb p (choice (parent t p)) → eqb r chosen ≡ eqb p (choice q)
-    same-choice r chosen er e = rw (er, is-parent) e
+    pub same-choice : (chosen : ℕ) → eqb (rank t p) chosen ≡ eqb p (choice (parent t p)) → eqb (rank t p) chosen ≡ eqb p (choice q)
+    same-choice chosen e = rw is-parent e
 
   -- only the parent's new state is read of the new states
   pub prefix-state :

@@ -7,7 +7,7 @@ ghost use Prim.Native.Nat.{ℕ, _+_, _*_, _<_, _≤_};
 ghost use lib.ListN.{length, getD, take};
 ghost use lib.Dec.{eqb};
 ghost use Rattle.rules.specs.Lists.{all, same};
-ghost use Rattle.rules.specs.States.{code, stateAt, oneOf, is, inExecution, ended};
+ghost use Rattle.rules.specs.States.{code, stateAt, oneOf, is, inSelection, inExecution, ended};
 ghost use Rattle.rules.specs.Table.{planCount, parent, entry, named, retryAborted, children};
 ghost use Rattle.rules.specs.Table.{rank as Table·rank};
 ghost use Rattle.rules.specs.Step.{moveOn, cutOff, move, none, ordersOf, tooManyLost, childrenComplete, firstNotDone, gateOpen, mayActivate, orders, moveOf, ordersIf, newState, step, done};
@@ -386,8 +386,15 @@ pub fn next_root(
     next_under(table, names, sets, old, words, 0, PlanState::Activated, o)
 }
 
+// Whether a plan has not begun: it is Inactive or in selection.
+fn is_dormant(state: PlanState) -> bool
+    ensures { λ r. ⌜ r ≡ (is Inactive state || inSelection state) ⌝ }
+{
+    state.to_byte() < PlanState::ACTIVATED
+}
+
 // The new state of plan p, a child, where `new` has the new states of the plans before it; `chosen` is the rank of the child that its
-// parent would activate if it is any-order.
+// parent would activate if it is any-order. Most plans of a tree stand under one that has not begun or has ended: these are quick.
 pub fn next_child(
     table: &[u8],
     ranks: &[u8],
@@ -404,8 +411,34 @@ pub fn next_child(
     ensures { λ r. ⌜ ((choice : ℕ → ℕ) → eqb (Table·rank (now (table .entry)) p) chosen ≡ eqb p (choice (parent (now (table .entry)) p)) → r ≡ newState (now (table .entry)) (now (old .entry)) (now (words .entry)) choice (now (new .entry)) p) ⌝ }
 {
     let q = parent_at(table, p);
-    let before = PlanState::from_byte(old[q]);
     let after = PlanState::from_byte(new[q]);
+    if is_dormant(after) {
+        return PlanState::Inactive;
+    }
+    if after.is_ended() {
+        return cut_off(PlanState::from_byte(old[p]));
+    }
+    next_live(table, ranks, names, sets, old, words, p, q, after, chosen)
+}
+
+// The new state of plan p, whose parent q has the new state `after`.
+fn next_live(
+    table: &[u8],
+    ranks: &[u8],
+    names: &[u64],
+    sets: &[u64],
+    old: &[u8],
+    words: &[u8],
+    p: usize,
+    q: usize,
+    after: PlanState,
+    chosen: u32,
+) -> PlanState
+    requires scene { ⌜ Scene (now table) (now old) (now words) (now ranks) (now names) (now sets) ⌝ }
+    requires plan { ⌜ (0 < p) × (p < planCount (now table)) × (q ≡ parent (now table) p) ⌝ }
+    ensures { λ r. ⌜ ((choice : ℕ → ℕ) → eqb (Table·rank (now (table .entry)) p) chosen ≡ eqb p (choice q) → r ≡ moveOf (now (table .entry)) (now (old .entry)) (now (words .entry)) choice after (ordersIf (now (table .entry)) (now (old .entry)) (now (words .entry)) choice (stateAt (now (old .entry)) q) after q p) p) ⌝ }
+{
+    let before = PlanState::from_byte(old[q]);
     if !takes_orders(PlanState::from_byte(old[p])) {
         return next_under(table, names, sets, old, words, p, after, no_orders());
     }
