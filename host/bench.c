@@ -39,8 +39,9 @@ static void need(int ok, const char *what) {
 }
 
 /*
- * A table of n plans with all bodies, at most six children a plan. Every plan but the root can be aborted and is then retried, and
- * those right under the root complete only with it, so that the tree goes on moving however long the record is.
+ * A table of n plans with all bodies: an unordered root with up to 40 children, and up to 6 under each other plan. Every plan but the
+ * root can be aborted and is then retried, and those right under the root complete only with it, so that the tree goes on moving
+ * however long the record is.
  */
 static void make_table(uint8_t *table, unsigned n, uint16_t *parents) {
     unsigned children[MOST_PLANS] = {0};
@@ -51,8 +52,8 @@ static void make_table(uint8_t *table, unsigned n, uint16_t *parents) {
     parents[0] = 0xFFFF;
     for (unsigned p = 1; p < n; p++) {
         unsigned q = p - 1;
-        while (q > 0 && (children[q] == 6 || below(3) == 0)) q = parents[q];
-        if (children[q] == 64) q = p - 1;
+        while (q > 0 && (children[q] == 6 || below(2) == 0)) q = parents[q];
+        if (children[q] == (q ? 6 : 40)) q = p - 1;
         parents[p] = (uint16_t)q;
         children[q]++;
     }
@@ -60,17 +61,17 @@ static void make_table(uint8_t *table, unsigned n, uint16_t *parents) {
         uint8_t *e = table + 8 + 8 * p;
         e[0] = (uint8_t)parents[p];
         e[1] = (uint8_t)(parents[p] >> 8);
-        e[2] = children[p] ? (uint8_t)(1 + below(4)) : 0;
+        e[2] = !children[p] ? 0 : p ? (uint8_t)(1 + below(4)) : 4;
         e[3] = children[p] ? 1 : 0;
         e[4] = p ? 0x30 : 0x20;
     }
 }
 
-/* The words of one step: one plan in 64 is told to abort, and one in 64 of the lower ones to complete. */
+/* The words of one step: one plan in 256 is told to abort, and one in 64 of the lower ones to complete. */
 static void make_words(uint8_t *words, unsigned n, const uint16_t *parents) {
     memset(words, 0, 4 * (size_t)n);
     for (unsigned p = 1; p < n; p++) {
-        if (below(64) == 0) words[4 * p] |= 0x10;
+        if (below(256) == 0) words[4 * p] |= 0x10;
         if (parents[p] != 0 && below(64) == 0) words[4 * p] |= 0x20;
     }
 }

@@ -1,6 +1,6 @@
 /*
  * The library behind a pipe: reads calls from standard input, makes them, and writes what they answer and leave, for host/differ.rs to
- * compare. All numbers are little-endian.
+ * compare. With the argument `plain` the calls go to host/plain.c instead. All numbers are little-endian.
  *
  *   call:   kind (1 byte: 1 step, 2 rest, 3 check), the lengths of table, states and words (4 bytes each; of a check the words are the
  *           record, and the states are empty), the budget (2 bytes), then the bytes of table, states and words
@@ -14,6 +14,7 @@
 #include <string.h>
 
 #include "asbru.h"
+#include "plain.h"
 
 enum { GUARD = 64, GUARD_BYTE = 0xA5 };
 
@@ -66,7 +67,15 @@ static void drop(Buffer *b) {
     free(b->before);
 }
 
-int main(void) {
+typedef struct {
+    uint64_t (*step)(const uint8_t *, size_t, uint8_t *, size_t, const uint8_t *, size_t);
+    uint64_t (*rest)(const uint8_t *, size_t, uint8_t *, size_t, const uint8_t *, size_t, uint16_t);
+    uint64_t (*check)(const uint8_t *, size_t, const uint8_t *, size_t);
+} Calls;
+
+int main(int argc, char **argv) {
+    static const Calls library = {asbru_step, asbru_rest, asbru_check}, plain = {plain_step, plain_rest, plain_check};
+    const Calls *calls = argc > 1 && strcmp(argv[1], "plain") == 0 ? &plain : &library;
     for (int kind; (kind = getchar()) != EOF;) {
         size_t lengths[3];
         for (int k = 0; k < 3; k++) lengths[k] = (size_t)number(4);
@@ -75,13 +84,13 @@ int main(void) {
         uint64_t answer = 0;
         switch (kind) {
         case 1:
-            answer = asbru_step(table.bytes, table.length, states.bytes, states.length, words.bytes, words.length);
+            answer = calls->step(table.bytes, table.length, states.bytes, states.length, words.bytes, words.length);
             break;
         case 2:
-            answer = asbru_rest(table.bytes, table.length, states.bytes, states.length, words.bytes, words.length, budget);
+            answer = calls->rest(table.bytes, table.length, states.bytes, states.length, words.bytes, words.length, budget);
             break;
         case 3:
-            answer = asbru_check(table.bytes, table.length, words.bytes, words.length);
+            answer = calls->check(table.bytes, table.length, words.bytes, words.length);
             break;
         default:
             need(0, "no such call");

@@ -1,0 +1,920 @@
+//! Random calls for the differential tester.
+//!
+//! A `Maker` keeps a pool of live situations: a good table and states that a run of steps has led
+//! to. Most calls go on from one of them; some spoil a table, states, words or a record first. All
+//! choices come from one seeded `Dice`, so a seed and a call's number name a call for good.
+
+use crate::reference::{self, Plan};
+
+// ------------------------------------------------------------------------------------------------
+// Dice
+// ------------------------------------------------------------------------------------------------
+
+/// A small seeded source of random numbers (splitmix64).
+pub struct Dice {
+    state: u64,
+}
+
+impl Dice {
+    pub fn new(seed: u64) -> Dice {
+        Dice { state: seed }
+    }
+
+    pub fn roll(&mut self) -> u64 {
+        self.state = self.state.wrapping_add(0x9E37_79B9_7F4A_7C15);
+        let mut mixed = self.state;
+        mixed = (mixed ^ (mixed >> 30)).wrapping_mul(0xBF58_476D_1CE4_E5B9);
+        mixed = (mixed ^ (mixed >> 27)).wrapping_mul(0x94D0_49BB_1331_11EB);
+        mixed ^ (mixed >> 31)
+    }
+
+    /// A number from 0 to `limit` - 1.
+    pub fn below(&mut self, limit: usize) -> usize {
+        (self.roll() % limit as u64) as usize
+    }
+
+    /// A number from `low` to `high`, both included.
+    pub fn between(&mut self, low: usize, high: usize) -> usize {
+        low + self.below(high - low + 1)
+    }
+
+    /// True in so many of a hundred cases.
+    pub fn percent(&mut self, chance: usize) -> bool {
+        self.below(100) < chance
+    }
+
+    pub fn one_of<T: Copy>(&mut self, choices: &[T]) -> T {
+        choices[self.below(choices.len())]
+    }
+
+    fn byte(&mut self) -> u8 {
+        self.roll() as u8
+    }
+}
+
+// ------------------------------------------------------------------------------------------------
+// Calls
+// ------------------------------------------------------------------------------------------------
+
+#[derive(Clone, Copy, PartialEq, Debug)]
+pub enum Kind {
+    Step,
+    Rest,
+    Check,
+}
+
+/// One call as it is sent to both implementations.
+#[derive(Clone)]
+pub struct Call {
+    pub kind: Kind,
+    pub table: Vec<u8>,
+    /// Empty for a check.
+    pub states: Vec<u8>,
+    /// The record for a check.
+    pub words: Vec<u8>,
+    /// 0 unless the kind is rest.
+    pub budget: u16,
+    /// The situation in the pool that goes on from the answer of this call.
+    continues: Option<usize>,
+}
+
+impl Call {
+    /// The reference's answer and the states that it leaves.
+    pub fn ask_reference(&self) -> (reference::Answer, Vec<u8>) {
+        let mut states = self.states.clone();
+        let answer = match self.kind {
+            Kind::Step => reference::step(&self.table, &mut states, &self.words),
+            Kind::Rest => reference::rest_jumping(&self.table, &mut states, &self.words, self.budget),
+            Kind::Check => reference::check(&self.table, &self.words),
+        };
+        (answer, states)
+    }
+}
+
+// ------------------------------------------------------------------------------------------------
+// Tables
+// ------------------------------------------------------------------------------------------------
+
+const HEADER: usize = reference::HEADER_BYTES;
+const ENTRY: usize = reference::PLAN_BYTES;
+
+#[derive(Clone, Copy)]
+enum Shape {
+    /// Every plan hangs on the highest plan that still has room.
+    Wide,
+    /// A chain, or nearly one.
+    Deep,
+    /// Two or three levels.
+    Bushy,
+    /// Any place that the parent rule allows.
+    Mixed,
+}
+
+const SHAPES: [Shape; 4] = [Shape::Wide, Shape::Deep, Shape::Bushy, Shape::Mixed];
+
+/// The parents of n plans in preorder; no plan gets more than `most_children`.
+fn parents(dice: &mut Dice, n: usize, shape: Shape, most_children: usize) -> Vec<usize> {
+    let mut parents = vec![reference::NO_PARENT];
+    let mut children = vec![0; n];
+    let breaks_of_a_chain = dice.one_of(&[0, 3, 10]);
+    for p in 1..n {
+        // The plan just before and its ancestors, lowest number (the root) first. The plan just
+        // before has no children yet, so there is always one with room.
+        let mut open = vec![p - 1];
+        while let Some(parent) = open.last().map(|&q| parents[q]).filter(|&q| q != reference::NO_PARENT) {
+            open.push(parent);
+        }
+        open.reverse();
+        let deepest = open.len() - 1;
+        let level = match shape {
+            Shape::Wide => 0,
+            Shape::Deep if dice.percent(breaks_of_a_chain) => dice.between(0, deepest),
+            Shape::Deep => deepest,
+            Shape::Bushy => dice.between(0, deepest.min(2)),
+            Shape::Mixed => dice.between(0, deepest),
+        };
+        let parent = open[level..]
+            .iter()
+            .copied()
+            .find(|&q| children[q] < most_children)
+            .expect("the plan just before has room");
+        children[parent] += 1;
+        parents.push(parent);
+    }
+    parents
+}
+
+/// How the fields of one table are rolled: densities in percent.
+#[derive(Clone)]
+struct Style {
+    /// One body for all plans with children, or any.
+    body: Option<u8>,
+    retry: usize,
+    optional: usize,
+    named: usize,
+    present: usize,
+    /// Of complete on a plan with children, besides: without it, and with m 0, such a plan completes
+    /// in the step after it was activated, before its children have begun.
+    complete: usize,
+    manual: usize,
+    overridable: usize,
+    /// How high m tends to be.
+    wait: Wait,
+}
+
+#[derive(Clone, Copy)]
+enum Wait {
+    Zero,
+    Low,
+    Any,
+    All,
+}
+
+/// No conditions, no retries: a tree that runs down to its leaves and completes all the way up.
+const GENTLE: Style = Style {
+    body: None,
+    retry: 0,
+    optional: 0,
+    named: 100,
+    present: 0,
+    complete: 0,
+    manual: 0,
+    overridable: 0,
+    wait: Wait::All,
+};
+
+fn any_style(dice: &mut Dice) -> Style {
+    // Any-order twice: of its rules the pick is the one that is reached least.
+    let bodies = [
+        reference::SEQUENTIAL,
+        reference::PARALLEL,
+        reference::ANY_ORDER,
+        reference::ANY_ORDER,
+        reference::UNORDERED,
+    ];
+    Style {
+        body: if dice.percent(50) { Some(dice.one_of(&bodies)) } else { None },
+        retry: dice.one_of(&[0, 50, 100]),
+        optional: dice.one_of(&[0, 0, 50, 100]),
+        named: dice.one_of(&[0, 50, 50, 90, 100]),
+        present: dice.one_of(&[0, 10, 30, 60, 100]),
+        complete: dice.one_of(&[0, 50, 100]),
+        manual: dice.one_of(&[0, 0, 30, 100]),
+        overridable: dice.one_of(&[0, 0, 30, 100]),
+        wait: dice.one_of(&[Wait::Zero, Wait::Low, Wait::Any, Wait::All]),
+    }
+}
+
+/// Six bits, each set with this chance.
+fn condition_bits(dice: &mut Dice, chance: usize) -> u8 {
+    (0..6).filter(|_| dice.percent(chance)).map(|condition| 1u8 << condition).sum()
+}
+
+fn wait_number(dice: &mut Dice, wait: Wait, named: usize) -> usize {
+    match wait {
+        Wait::Zero => 0,
+        Wait::Low => dice.between(0, named.min(1)),
+        Wait::Any => dice.between(0, named),
+        Wait::All => named,
+    }
+}
+
+/// A table of these parents. It passes the checks unless the parents themselves break a rule.
+fn table_of(dice: &mut Dice, parents: &[usize], style: &Style) -> Vec<u8> {
+    let n = parents.len();
+    let has_children = |p: usize| parents.contains(&p);
+    let flags: Vec<u8> = (0..n)
+        .map(|p| {
+            let retry = has_children(p) && dice.percent(style.retry);
+            let optional = has_children(p) && dice.percent(style.optional);
+            let named = p != 0 && dice.percent(style.named);
+            u8::from(retry) | u8::from(optional) << 1 | u8::from(named) << 2
+        })
+        .collect();
+    let mut table = header(b"APT", n);
+    for p in 0..n {
+        let named = (1..n).filter(|&c| parents[c] == p && flags[c] & 4 != 0).count();
+        let mut present = condition_bits(dice, style.present);
+        if has_children(p) && dice.percent(style.complete) {
+            present |= 1 << reference::COMPLETE;
+        }
+        // A root that is not selected or is ended early would leave nothing to see below it.
+        if p == 0 && dice.percent(70) {
+            present &= 1 << reference::COMPLETE;
+        }
+        table.extend((parents[p] as u16).to_le_bytes());
+        table.extend([
+            if has_children(p) { style.body.unwrap_or(dice.between(1, 4) as u8) } else { reference::LEAF },
+            flags[p],
+            present,
+            present & condition_bits(dice, style.manual),
+            present & condition_bits(dice, style.overridable),
+            wait_number(dice, style.wait, named) as u8,
+        ]);
+    }
+    table
+}
+
+fn header(mark: &[u8; 3], n: usize) -> Vec<u8> {
+    let mut bytes = mark.to_vec();
+    bytes.extend(1u16.to_le_bytes());
+    bytes.extend((n as u16).to_le_bytes());
+    bytes.push(0);
+    bytes
+}
+
+/// Most tables are small, some middling, few big.
+fn plan_count(dice: &mut Dice) -> usize {
+    match dice.below(1000) {
+        0..=79 => dice.between(1, 2),
+        80..=869 => dice.between(3, 12),
+        870..=959 => dice.between(13, 64),
+        // Just enough for a plan with 64 children.
+        960..=974 => dice.between(65, 70),
+        975..=989 => dice.between(71, 255),
+        _ => 256,
+    }
+}
+
+pub fn good_table(dice: &mut Dice, n: usize) -> Vec<u8> {
+    let shape = dice.one_of(&SHAPES);
+    let parents = parents(dice, n, shape, reference::MOST_CHILDREN);
+    let style = any_style(dice);
+    table_of(dice, &parents, &style)
+}
+
+fn read_good_table(table: &[u8]) -> Vec<Plan> {
+    reference::read_table(table).unwrap_or_else(|answer| panic!("a good table is refused: {answer:x}"))
+}
+
+/// A plan with 65 or more children among at most 256 plans.
+fn table_with_65_children(dice: &mut Dice) -> Vec<u8> {
+    let n = dice.between(66, 140);
+    let mut parents = parents(dice, n, Shape::Wide, 255);
+    // Sometimes the crowded plan is not the root: the root gets one child, which gets all others.
+    if dice.percent(50) {
+        parents[2..].fill(1);
+    }
+    let style = any_style(dice);
+    table_of(dice, &parents, &style)
+}
+
+/// 257 plans: all is right but for their number.
+fn table_of_257_plans(dice: &mut Dice) -> Vec<u8> {
+    let shape = dice.one_of(&SHAPES);
+    let parents = parents(dice, 257, shape, reference::MOST_CHILDREN);
+    let style = any_style(dice);
+    table_of(dice, &parents, &style)
+}
+
+/// Spoils a table in one place. By chance the result may still be good.
+fn spoil_table(dice: &mut Dice, table: &mut Vec<u8>) {
+    match dice.below(100) {
+        0..=3 => table.truncate(dice.below(HEADER)),
+        4..=19 => spoil_header(dice, table),
+        20..=27 => spoil_length(dice, table),
+        28..=29 => *table = table_with_65_children(dice),
+        30 => *table = table_of_257_plans(dice),
+        _ => spoil_entry(dice, table),
+    }
+}
+
+/// One byte of the header of a table or record, by a bit or as a whole; or a plan count near by.
+fn spoil_header(dice: &mut Dice, bytes: &mut [u8]) {
+    if bytes.len() < HEADER {
+        return;
+    }
+    let n = u16::from_le_bytes([bytes[5], bytes[6]]);
+    if dice.percent(30) {
+        let other = dice.one_of(&[0, 1, n.wrapping_sub(1), n.wrapping_add(1), 256, 257, 65_535]);
+        bytes[5..7].copy_from_slice(&other.to_le_bytes());
+        return;
+    }
+    let at = dice.below(HEADER);
+    bytes[at] = if dice.percent(50) { bytes[at] ^ 1 << dice.below(8) } else { dice.byte() };
+}
+
+/// A few bytes more or fewer, or a whole entry more or fewer.
+fn spoil_length(dice: &mut Dice, bytes: &mut Vec<u8>) {
+    let by = if dice.percent(30) { ENTRY } else { dice.between(1, 9) };
+    if dice.percent(50) {
+        bytes.truncate(bytes.len().saturating_sub(by));
+    } else {
+        for _ in 0..by {
+            let byte = dice.one_of(&[0, 0, 1, 255]);
+            bytes.push(byte);
+        }
+    }
+}
+
+/// One field of one plan's entry.
+fn spoil_entry(dice: &mut Dice, table: &mut [u8]) {
+    let entries = table.len().saturating_sub(HEADER) / ENTRY;
+    if entries == 0 {
+        return;
+    }
+    let p = if dice.percent(15) { 0 } else { dice.below(entries) };
+    let entry = &mut table[HEADER + ENTRY * p..HEADER + ENTRY * (p + 1)];
+    match dice.below(9) {
+        0 => {
+            let parent = dice.one_of(&[p, p + 1, p.saturating_sub(2), p / 2, 256, 65_535]) as u16;
+            entry[0..2].copy_from_slice(&parent.to_le_bytes());
+        }
+        1 => entry[2] = dice.below(6) as u8,
+        2 => entry[2] = dice.byte(),
+        // Any bit of the flags, conditions, manual or overridable.
+        3 | 4 => entry[dice.between(3, 6)] ^= 1 << dice.below(8),
+        // A condition goes; its manual and overridable bits stay behind.
+        5 => entry[4] &= dice.byte(),
+        6 => entry[7] = entry[7].wrapping_add(1),
+        7 => entry[7] = dice.byte(),
+        _ => entry[dice.below(ENTRY)] ^= 1 << dice.below(8),
+    }
+}
+
+// ------------------------------------------------------------------------------------------------
+// Words
+// ------------------------------------------------------------------------------------------------
+
+/// How likely each bit of a word is, in percent.
+#[derive(Clone)]
+pub struct Mood {
+    satisfied: [usize; 6],
+    satisfiable: usize,
+    triggered: usize,
+    overridden: usize,
+}
+
+pub fn mood(dice: &mut Dice) -> Mood {
+    let (satisfied, satisfiable, triggered, overridden) = match dice.below(8) {
+        // All goes well.
+        0 | 1 => ([90, 90, 3, 70, 2, 40], 97, 80, 5),
+        // Many interruptions.
+        2 => ([85, 85, 30, 50, 3, 20], 97, 80, 5),
+        // Many aborts.
+        3 => ([90, 90, 5, 60, 20, 20], 95, 80, 5),
+        // Slow selection, many rejections.
+        4 => ([40, 40, 5, 50, 5, 30], 60, 60, 10),
+        // Nothing happens.
+        5 => ([0, 0, 0, 0, 0, 0], 95, 0, 0),
+        // Anything.
+        6 => ([50; 6], 70, 50, 50),
+        // By hand.
+        _ => ([60, 60, 10, 40, 5, 30], 80, 40, 40),
+    };
+    Mood { satisfied, satisfiable, triggered, overridden }
+}
+
+/// A word that check 12 lets pass.
+fn good_word(dice: &mut Dice, plan: &Plan, mood: &Mood) -> u32 {
+    let mut word = 0;
+    for condition in 0..6 {
+        // The end of the root is the end of the whole tree: make it rarer.
+        let rarely = plan.parent.is_none() && condition >= 4 && dice.percent(60);
+        if !rarely && dice.percent(mood.satisfied[condition]) {
+            word |= 1 << condition;
+        }
+        if dice.percent(mood.triggered) {
+            word |= 1 << (8 + condition);
+        }
+        if !rarely && dice.percent(mood.overridden) {
+            word |= 1 << (14 + condition);
+        }
+    }
+    for filter_or_setup in 0..2 {
+        let satisfied = word >> filter_or_setup & 1 == 1;
+        if satisfied || dice.percent(mood.satisfiable) {
+            word |= 1 << (6 + filter_or_setup);
+        }
+    }
+    if plan.body == reference::ANY_ORDER {
+        word = with_pick(word, dice.below(plan.children.len()));
+    }
+    word
+}
+
+pub fn good_words(dice: &mut Dice, plans: &[Plan], mood: &Mood) -> Vec<u32> {
+    plans.iter().map(|plan| good_word(dice, plan, mood)).collect()
+}
+
+fn bytes_of_words(words: &[u32]) -> Vec<u8> {
+    words.iter().flat_map(|word| word.to_le_bytes()).collect()
+}
+
+fn spoil_words(dice: &mut Dice, words: &mut Vec<u8>, plans: &[Plan]) {
+    match dice.below(10) {
+        0 => spoil_slice_length(dice, words),
+        1 => words.iter_mut().for_each(|byte| *byte = dice.byte()),
+        2 => change_word(dice, words, |dice, word| with_pick(word, dice.below(64))),
+        3 | 4 => {
+            let p = dice.below(plans.len());
+            if words.len() >= 4 * p + 4 {
+                // Just too high; where there are 64 children, there is no such pick.
+                let pick = plans[p].children.len() % 64;
+                change_word(dice, &mut words[4 * p..4 * p + 4], |_, word| with_pick(word, pick));
+            }
+        }
+        5 => change_word(dice, words, |dice, word| {
+            let filter_or_setup = dice.below(2);
+            word & !(1 << (6 + filter_or_setup)) | 1 << filter_or_setup
+        }),
+        _ => change_word(dice, words, |dice, word| word ^ 1 << dice.below(32)),
+    }
+}
+
+fn with_pick(word: u32, pick: usize) -> u32 {
+    word & !(63 << 24) | (pick as u32) << 24
+}
+
+fn change_word(dice: &mut Dice, words: &mut [u8], change: impl Fn(&mut Dice, u32) -> u32) {
+    if words.len() < 4 {
+        return;
+    }
+    let at = 4 * dice.below(words.len() / 4);
+    let word = u32::from_le_bytes([words[at], words[at + 1], words[at + 2], words[at + 3]]);
+    words[at..at + 4].copy_from_slice(&change(dice, word).to_le_bytes());
+}
+
+/// Another length for states or words: none, a few bytes fewer or more, or twice as many.
+fn spoil_slice_length(dice: &mut Dice, bytes: &mut Vec<u8>) {
+    match dice.below(5) {
+        0 => bytes.clear(),
+        1 | 2 => bytes.truncate(bytes.len().saturating_sub(dice.between(1, 4))),
+        3 => bytes.extend(vec![0; dice.between(1, 4)]),
+        _ => bytes.extend_from_within(..),
+    }
+}
+
+// ------------------------------------------------------------------------------------------------
+// States
+// ------------------------------------------------------------------------------------------------
+
+/// The few states that the leaves of one tree are mostly in: several Ready ones that an any-order plan
+/// can choose from, several ends that wait-for counts, or any three, for rules on all children of a
+/// plan show only when these have little in common.
+fn states_of_leaves(dice: &mut Dice) -> Vec<u8> {
+    match dice.below(4) {
+        0 => vec![3, 3, 3, 3, 6, 8, 2],
+        1 => vec![6, 7, 8, 6, 7, 8, 3, 4],
+        _ => (0..3).map(|_| dice.below(9) as u8).collect(),
+    }
+}
+
+/// The same of plans with children: mostly Activated, for below others nothing goes on.
+fn states_of_others(dice: &mut Dice) -> Vec<u8> {
+    match dice.below(4) {
+        0 | 1 => vec![4, 4, 4, 4, 4, 3, 7],
+        2 => vec![4, 4, 4, 5, 5, 6, 7],
+        _ => vec![4, 4, 4, 4, 0, 1, 2, 3, 5, 6, 7, 8],
+    }
+}
+
+/// States that may be handed in though no run may ever lead to them.
+pub fn good_states(dice: &mut Dice, plans: &[Plan]) -> Vec<u8> {
+    let of_leaves = states_of_leaves(dice);
+    let of_others = states_of_others(dice);
+    let mut states = vec![reference::INACTIVE; plans.len()];
+    for (p, plan) in plans.iter().enumerate() {
+        let likely = if plan.body == reference::LEAF { &of_leaves } else { &of_others };
+        for _ in 0..3 {
+            states[p] = if dice.percent(90) { dice.one_of(likely) } else { dice.below(9) as u8 };
+            if !reference::breaks_a_rule(plans, &states, p) {
+                break;
+            }
+            // Inactive breaks no rule, whatever the plans before are in.
+            states[p] = reference::INACTIVE;
+        }
+    }
+    states
+}
+
+/// A byte in place of a state: mostly a state, sometimes 9, 255 or any byte.
+fn any_state_byte(dice: &mut Dice) -> u8 {
+    match dice.below(10) {
+        0 => 9,
+        1 => 255,
+        2 => dice.byte(),
+        _ => dice.below(9) as u8,
+    }
+}
+
+/// The states as a rule, one byte, or all bytes.
+fn spoil_states(dice: &mut Dice, states: &mut Vec<u8>, plans: &[Plan]) {
+    match dice.below(12) {
+        0 => spoil_slice_length(dice, states),
+        1 => states.iter_mut().for_each(|state| *state = dice.below(9) as u8),
+        2 => states.iter_mut().for_each(|state| *state = dice.byte()),
+        3..=7 => spoil_siblings(dice, states, plans),
+        _ => {
+            if !states.is_empty() {
+                let p = dice.below(states.len());
+                states[p] = any_state_byte(dice);
+            }
+        }
+    }
+}
+
+/// States that may be handed in, and then two children of one plan in states of their own: of a
+/// sequential plan one after the first not done, of an any-order plan two in execution, below a
+/// plan that has not begun or has ended one that goes on.
+fn spoil_siblings(dice: &mut Dice, states: &mut Vec<u8>, plans: &[Plan]) {
+    if plans.len() == 1 {
+        return;
+    }
+    *states = good_states(dice, plans);
+    // Every plan but the root has a parent: big families come up more often than small ones.
+    let parent = plans[dice.between(1, plans.len() - 1)].parent.expect("not the root");
+    for _ in 0..dice.between(1, 2) {
+        let child = dice.one_of(&plans[parent].children);
+        states[child] = dice.one_of(&[4, 4, 5, 5, 0, 3, 6, 7, 8]);
+    }
+}
+
+// ------------------------------------------------------------------------------------------------
+// Records
+// ------------------------------------------------------------------------------------------------
+
+/// A good record of so many steps: random words and picks, and the pick bits cleared afterwards.
+fn good_record(dice: &mut Dice, plans: &[Plan], steps: usize) -> Vec<u8> {
+    let mut record = header(b"APR", plans.len());
+    let mut states = vec![reference::INACTIVE; plans.len()];
+    let mut temper = mood(dice);
+    for _ in 0..steps {
+        if dice.percent(10) {
+            temper = mood(dice);
+        }
+        let words = good_words(dice, plans, &temper);
+        states = reference::new_states(&reference::Before { plans, states: &states, words: &words });
+        let without_picks: Vec<u32> = words.iter().map(|&word| with_pick(word, 0)).collect();
+        record.extend(bytes_of_words(&without_picks));
+        record.extend(&states);
+    }
+    record
+}
+
+fn record_steps(dice: &mut Dice, n: usize) -> usize {
+    match dice.below(100) {
+        0..=3 => 0,
+        4..=29 => dice.between(1, 8),
+        30..=97 => dice.between(9, 40),
+        _ if n <= 12 => dice.between(41, 300),
+        _ => 1,
+    }
+}
+
+/// Spoils a record in one place: a state, a word, the header or the length.
+fn spoil_record(dice: &mut Dice, record: &mut Vec<u8>, plans: &[Plan]) {
+    match dice.below(100) {
+        0..=5 => spoil_header(dice, record),
+        6..=9 => spoil_length(dice, record),
+        10 => record.truncate(dice.below(HEADER)),
+        11..=34 => spoil_word_in_record(dice, record, plans.len()),
+        _ => spoil_state_in_record(dice, record, plans),
+    }
+}
+
+/// A random step of a record: where its words and where its states begin.
+fn step_in_record(dice: &mut Dice, record: &[u8], n: usize) -> Option<(usize, usize)> {
+    let steps = record.len().saturating_sub(HEADER) / (5 * n);
+    if steps == 0 {
+        return None;
+    }
+    let start = HEADER + 5 * n * dice.below(steps);
+    Some((start, start + 4 * n))
+}
+
+fn spoil_word_in_record(dice: &mut Dice, record: &mut Vec<u8>, n: usize) {
+    if let Some((words_start, states_start)) = step_in_record(dice, record, n) {
+        let part = &mut record[words_start..states_start];
+        change_word(dice, part, |dice, word| word ^ 1 << dice.below(32));
+        cut_after_sometimes(dice, record, states_start + n);
+    }
+}
+
+/// Leaves nothing to compare after the spoiled step: it must be found there or not at all.
+fn cut_after_sometimes(dice: &mut Dice, record: &mut Vec<u8>, end: usize) {
+    if dice.percent(40) {
+        record.truncate(end);
+    }
+}
+
+fn spoil_state_in_record(dice: &mut Dice, record: &mut Vec<u8>, plans: &[Plan]) {
+    let n = plans.len();
+    let Some((words_start, states_start)) = step_in_record(dice, record, n) else {
+        return;
+    };
+    let p = dice.below(n);
+    let before = if words_start == HEADER { reference::INACTIVE } else { record[words_start - n + p] };
+    let shown = record[states_start + p];
+    match dice.below(6) {
+        // The plan did not move.
+        0 => record[states_start + p] = before,
+        // The plan moved on once more, or back by one.
+        1 => record[states_start + p] = shown.wrapping_add(1),
+        2 => record[states_start + p] = shown.saturating_sub(1),
+        // Another pick, or two picks, or none: Ready and Activated among the children of one plan.
+        3 | 4 => move_pick(dice, &mut record[states_start..states_start + n], plans),
+        _ => record[states_start + p] = any_state_byte(dice),
+    }
+    cut_after_sometimes(dice, record, states_start + n);
+}
+
+/// Among the children of an any-order plan: an Activated one is shown Ready, a Ready one Activated,
+/// or both.
+fn move_pick(dice: &mut Dice, states: &mut [u8], plans: &[Plan]) {
+    let any_order: Vec<usize> = (0..plans.len()).filter(|&p| plans[p].body == reference::ANY_ORDER).collect();
+    if any_order.is_empty() {
+        return;
+    }
+    let children = &plans[dice.one_of(&any_order)].children;
+    let in_state = |states: &[u8], wanted: u8| -> Vec<usize> {
+        children.iter().copied().filter(|&child| states[child] == wanted).collect()
+    };
+    let activated = in_state(states, reference::ACTIVATED);
+    let ready = in_state(states, reference::READY);
+    if !activated.is_empty() && dice.percent(80) {
+        states[dice.one_of(&activated)] = reference::READY;
+    }
+    if !ready.is_empty() && dice.percent(80) {
+        states[dice.one_of(&ready)] = reference::ACTIVATED;
+    }
+}
+
+/// The longest record that is accepted and the shortest that is too long: one plan and 65,535 or
+/// 65,536 steps. The plan stays Considered, or one word at the end is spoiled.
+fn longest_record(dice: &mut Dice) -> (Vec<u8>, Vec<u8>) {
+    let mut table = header(b"APT", 1);
+    table.extend([255, 255, 0, 0, 1, 0, 0, 0]);
+    let steps = dice.one_of(&[65_535, 65_535, 65_536]);
+    let mut record = header(b"APR", 1);
+    for _ in 0..steps {
+        record.extend([64, 0, 0, 0, reference::CONSIDERED]);
+    }
+    if dice.percent(50) {
+        let last = record.len() - 1;
+        record[last] = reference::POSSIBLE;
+    }
+    (table, record)
+}
+
+// ------------------------------------------------------------------------------------------------
+// The maker
+// ------------------------------------------------------------------------------------------------
+
+/// A good table and the states that a run has led to.
+struct Situation {
+    table: Vec<u8>,
+    plans: Vec<Plan>,
+    states: Vec<u8>,
+    mood: Mood,
+    steps_left: usize,
+}
+
+const POOL: usize = 64;
+
+pub struct Maker {
+    dice: Dice,
+    pool: Vec<Situation>,
+}
+
+impl Maker {
+    pub fn new(seed: u64) -> Maker {
+        let mut dice = Dice::new(seed);
+        let pool = (0..POOL).map(|_| fresh_situation(&mut dice)).collect();
+        Maker { dice, pool }
+    }
+
+    pub fn next_call(&mut self) -> Call {
+        match self.dice.below(100) {
+            0..=54 => self.step_call(),
+            55..=74 => self.rest_call(),
+            _ => self.check_call(),
+        }
+    }
+
+    /// The situation that the call came from goes on with the states that the reference gave.
+    pub fn go_on(&mut self, call: &Call, states_after: &[u8]) {
+        let Some(chosen) = call.continues else { return };
+        let situation = &mut self.pool[chosen];
+        let unchanged = situation.states == states_after;
+        let rests_for_good = unchanged && reference::has_ended(states_after[0]);
+        if situation.steps_left == 0 || rests_for_good {
+            *situation = fresh_situation(&mut self.dice);
+        } else {
+            // A tree that waits for something may wait for ever: make room for another soon.
+            situation.steps_left =
+                if unchanged { situation.steps_left / 3 } else { situation.steps_left - 1 };
+            situation.states = states_after.to_vec();
+        }
+    }
+
+    fn step_call(&mut self) -> Call {
+        let chosen = self.dice.below(POOL);
+        let mut call = self.good_call(Kind::Step, chosen);
+        match self.dice.below(100) {
+            0..=64 => call.continues = Some(chosen),
+            65..=79 => call.states = good_states(&mut self.dice, &self.pool[chosen].plans),
+            _ => spoil_call(&mut self.dice, &mut call, &self.pool[chosen].plans),
+        }
+        call
+    }
+
+    fn rest_call(&mut self) -> Call {
+        match self.dice.below(1000) {
+            0..=29 => return restless_call(&mut self.dice),
+            30..=31 => return long_call(&mut self.dice),
+            _ => {}
+        }
+        let chosen = self.dice.below(POOL);
+        let mut call = self.good_call(Kind::Rest, chosen);
+        match self.dice.below(100) {
+            // Only a short run goes on: a long one would mostly leave a tree that has ended.
+            0..=29 => call.continues = Some(chosen),
+            30..=49 => call.states = good_states(&mut self.dice, &self.pool[chosen].plans),
+            50..=79 => {}
+            _ => spoil_call(&mut self.dice, &mut call, &self.pool[chosen].plans),
+        }
+        call.budget =
+            if call.continues.is_some() { self.dice.between(0, 6) as u16 } else { self.budget(&call) };
+        call
+    }
+
+    /// Mostly small; sometimes just at, below or above the number of steps after which the run
+    /// rests; rarely the largest, on small tables or where the run soon rests.
+    fn budget(&mut self, call: &Call) -> u16 {
+        match self.dice.below(100) {
+            0..=9 => 0,
+            10..=49 => self.dice.between(1, 16) as u16,
+            50..=69 => self.dice.between(17, 100) as u16,
+            70..=71 => self.dice.between(101, 2000) as u16,
+            72..=95 => self.budget_near_rest(call),
+            _ => largest_bounded_budget(call),
+        }
+    }
+
+    fn budget_near_rest(&mut self, call: &Call) -> u16 {
+        let steps = steps_in_answer(&Call { budget: 200, ..call.clone() });
+        (steps + self.dice.between(0, 2)).saturating_sub(1) as u16
+    }
+
+    fn check_call(&mut self) -> Call {
+        if self.dice.below(1500) == 0 {
+            let (table, record) = longest_record(&mut self.dice);
+            return Call {
+                kind: Kind::Check,
+                table,
+                states: vec![],
+                words: record,
+                budget: 0,
+                continues: None,
+            };
+        }
+        let n = plan_count(&mut self.dice);
+        let mut table = good_table(&mut self.dice, n);
+        let plans = read_good_table(&table);
+        let steps = record_steps(&mut self.dice, n);
+        let mut record = good_record(&mut self.dice, &plans, steps);
+        match self.dice.below(100) {
+            0..=24 => {}
+            25..=84 => spoil_record(&mut self.dice, &mut record, &plans),
+            85..=94 => {
+                for _ in 0..self.dice.between(2, 3) {
+                    spoil_record(&mut self.dice, &mut record, &plans);
+                }
+            }
+            _ => spoil_table(&mut self.dice, &mut table),
+        }
+        Call { kind: Kind::Check, table, states: vec![], words: record, budget: 0, continues: None }
+    }
+
+    /// A call on the chosen situation that is not refused.
+    fn good_call(&mut self, kind: Kind, chosen: usize) -> Call {
+        let situation = &self.pool[chosen];
+        let dice = &mut self.dice;
+        let mood = if dice.percent(20) { mood(dice) } else { situation.mood.clone() };
+        Call {
+            kind,
+            table: situation.table.clone(),
+            states: situation.states.clone(),
+            words: bytes_of_words(&good_words(dice, &situation.plans, &mood)),
+            budget: 0,
+            continues: None,
+        }
+    }
+}
+
+/// A run that mostly goes round in a circle: leaves that are aborted and retried again and again, and
+/// above them only plans that cannot complete.
+fn restless_call(dice: &mut Dice) -> Call {
+    let n = dice.between(2, 4);
+    let mut table = good_table(dice, n);
+    let mut words = Vec::new();
+    for (p, plan) in read_good_table(&table).iter().enumerate() {
+        let entry = &mut table[HEADER + ENTRY * p..HEADER + ENTRY * (p + 1)];
+        entry[5] = 0;
+        entry[6] = 0;
+        entry[7] = 0;
+        if plan.body == reference::LEAF {
+            entry[4] = 1 << reference::ABORT;
+            words.push(1 << reference::ABORT);
+        } else {
+            entry[3] |= 1 << reference::RETRY_ABORTED;
+            entry[4] = 1 << reference::COMPLETE;
+            let any_order = plan.body == reference::ANY_ORDER;
+            words.push(with_pick(0, if any_order { dice.below(plan.children.len()) } else { 0 }));
+        }
+    }
+    let budget = if dice.percent(50) { 65_535 } else { dice.between(0, 2000) as u16 };
+    let states = vec![reference::INACTIVE; n];
+    Call { kind: Kind::Rest, table, states, words: bytes_of_words(&words), budget, continues: None }
+}
+
+/// A long run to rest: down a deep tree and up again.
+fn long_call(dice: &mut Dice) -> Call {
+    let n = dice.between(20, 256);
+    let parents = parents(dice, n, Shape::Deep, reference::MOST_CHILDREN);
+    let table = table_of(dice, &parents, &GENTLE);
+    let budget = dice.one_of(&[65_535, 65_535, 1000, 6 * n, 4 * n]) as u16;
+    Call { kind: Kind::Rest, table, states: vec![0; n], words: vec![0; 4 * n], budget, continues: None }
+}
+
+/// A new table, all plans Inactive or further on; on big tables mostly further on, for it would take
+/// hundreds of calls to get down to their leaves.
+fn fresh_situation(dice: &mut Dice) -> Situation {
+    let n = plan_count(dice);
+    let table = good_table(dice, n);
+    let plans = read_good_table(&table);
+    let far = if n > 12 { 70 } else { 30 };
+    let states = if dice.percent(far) { good_states(dice, &plans) } else { vec![reference::INACTIVE; n] };
+    let mood = mood(dice);
+    let steps_left = dice.between(5, 60);
+    Situation { table, plans, states, mood, steps_left }
+}
+
+/// Spoils table, states or words of a step or a run, in one place or in several.
+fn spoil_call(dice: &mut Dice, call: &mut Call, plans: &[Plan]) {
+    let places = dice.one_of(&[1, 1, 1, 1, 2, 2, 3]);
+    for _ in 0..places {
+        match dice.below(10) {
+            0..=3 => spoil_table(dice, &mut call.table),
+            4..=6 => spoil_states(dice, &mut call.states, plans),
+            _ => spoil_words(dice, &mut call.words, plans),
+        }
+    }
+}
+
+/// 65,535 where the run rests soon or the table has at most three plans, so that the other
+/// implementation need not make 65,535 steps of a big tree; else 300.
+fn largest_bounded_budget(call: &Call) -> u16 {
+    let small = Call { budget: 300, ..call.clone() };
+    if call.states.len() <= 3 || steps_in_answer(&small) < 300 {
+        65_535
+    } else {
+        300
+    }
+}
+
+/// The step in the reference's answer; 0 if it refuses.
+fn steps_in_answer(call: &Call) -> usize {
+    (call.ask_reference().0 >> 32) as usize
+}

@@ -1,0 +1,549 @@
+//! A differential tester: compares another implementation with reference.rs on random calls.
+//!
+//!     differ CHILD [ARGS..] --seed S --calls N [--patience SECONDS]
+//!
+//! starts CHILD with ARGS, writes requests to its standard input and reads answers from its
+//! standard output. All numbers are little-endian.
+//!
+//!     request: u8 kind (1 step, 2 rest, 3 check); u32 length of the table, u32 of the states (0 for
+//!              a check), u32 of the words (for a check: of the record); u16 budget (0 unless rest);
+//!              the bytes of the table, of the states, of the words or record
+//!     answer:  u64; the states, as many bytes as were sent; u8, 1 when the guard bytes around all
+//!              buffers of the child are intact
+//!
+//! Requests come in batches, so the child must send its answers before it waits for the next
+//! request. It ends when its standard input does.
+//!
+//! Status 0: N calls were made without a difference, and they reached every answer number 1 to 15
+//! and every move of a plan that the rules allow. Status 1: anything else.
+
+mod cases;
+mod reference;
+#[cfg(test)]
+mod self_test;
+
+use cases::{Call, Kind, Maker};
+use std::io::{self, BufReader, Read, Write};
+use std::process::{Child, ChildStdin, ChildStdout, Command, ExitCode, Stdio};
+use std::sync::mpsc::{self, RecvTimeoutError};
+use std::time::{Duration, Instant};
+
+fn main() -> ExitCode {
+    let result = Options::from_arguments().and_then(|options| run(&options));
+    match result {
+        Ok(()) => ExitCode::SUCCESS,
+        Err(message) => {
+            println!("{message}");
+            ExitCode::FAILURE
+        }
+    }
+}
+
+// ------------------------------------------------------------------------------------------------
+// Command line
+// ------------------------------------------------------------------------------------------------
+
+struct Options {
+    /// The child's program and its arguments.
+    child: Vec<String>,
+    seed: u64,
+    calls: u64,
+    /// How long a batch may take before the child is taken to hang.
+    patience: Duration,
+}
+
+impl Options {
+    /// `--seed`, `--calls` and `--patience` are the tester's; everything else is the child's.
+    fn from_arguments() -> Result<Options, String> {
+        let usage = "usage: differ CHILD [ARGS..] --seed S --calls N [--patience SECONDS]";
+        let patience = Duration::from_secs(120);
+        let mut options = Options { child: Vec::new(), seed: 1, calls: 200_000, patience };
+        let mut arguments = std::env::args().skip(1);
+        while let Some(argument) = arguments.next() {
+            let mut number = || arguments.next().and_then(|text| text.parse().ok()).ok_or(usage);
+            match argument.as_str() {
+                "--seed" => options.seed = number()?,
+                "--calls" => options.calls = number()?,
+                "--patience" => options.patience = Duration::from_secs(number()?),
+                _ => options.child.push(argument),
+            }
+        }
+        if options.child.is_empty() {
+            return Err(usage.to_string());
+        }
+        Ok(options)
+    }
+}
+
+// ------------------------------------------------------------------------------------------------
+// The run
+// ------------------------------------------------------------------------------------------------
+
+/// A call, its number (from 1) and what the reference says to it.
+struct Asked {
+    number: u64,
+    call: Call,
+    answer: u64,
+    states: Vec<u8>,
+}
+
+/// What the child says to a call.
+struct Reply {
+    answer: u64,
+    states: Vec<u8>,
+    guards: u8,
+}
+
+/// A batch ends at this many calls or bytes, whichever comes first.
+const BATCH_CALLS: usize = 256;
+const BATCH_BYTES: usize = 1 << 20;
+
+fn run(options: &Options) -> Result<(), String> {
+    let start = Instant::now();
+    let mut maker = Maker::new(options.seed);
+    let mut counts = Counts::default();
+    let mut child = Talk::start(&options.child)?;
+    while counts.calls() < options.calls {
+        let batch = next_batch(&mut maker, counts.calls(), options.calls);
+        let replies = child.exchange(&batch, options.patience);
+        for (asked, reply) in batch.iter().zip(&replies) {
+            if let Some(difference) = difference(asked, reply) {
+                return Err(report(options.seed, asked, &difference));
+            }
+            counts.add(asked);
+        }
+        if replies.len() < batch.len() {
+            return Err(find_the_call_that_stops_the_child(options, &batch[replies.len()..]));
+        }
+    }
+    child.finish()?;
+    println!(
+        "seed {}: {} calls, no difference, {:.1} s",
+        options.seed,
+        counts.calls(),
+        start.elapsed().as_secs_f64()
+    );
+    counts.print();
+    counts.all_reached()
+}
+
+/// The next calls with the reference's answers. The situations in the pool go on from these.
+fn next_batch(maker: &mut Maker, made: u64, wanted: u64) -> Vec<Asked> {
+    let mut batch: Vec<Asked> = Vec::new();
+    let mut bytes = 0;
+    while batch.len() < BATCH_CALLS && bytes < BATCH_BYTES && made + (batch.len() as u64) < wanted {
+        let call = maker.next_call();
+        let (answer, states) = call.ask_reference();
+        maker.go_on(&call, &states);
+        bytes += call.table.len() + call.states.len() + call.words.len();
+        batch.push(Asked { number: made + batch.len() as u64 + 1, call, answer, states });
+    }
+    batch
+}
+
+/// What is wrong with a reply, or None.
+fn difference(asked: &Asked, reply: &Reply) -> Option<String> {
+    if reply.answer == asked.answer && reply.states == asked.states && reply.guards == 1 {
+        return None;
+    }
+    Some(format!(
+        "expected {}\n  states {}\nreceived {}\n  states {}\n  guards {}",
+        in_words(asked.answer),
+        hex(&asked.states),
+        in_words(reply.answer),
+        hex(&reply.states),
+        if reply.guards == 1 { "intact" } else { "broken" },
+    ))
+}
+
+fn report(seed: u64, asked: &Asked, what: &str) -> String {
+    let call = &asked.call;
+    format!(
+        "DIFFERENCE\nseed {seed}\ncall {}\nkind {} ({:?})\ntable {}\nstates {}\n{} {}\nbudget {}\n{what}",
+        asked.number,
+        kind_number(call.kind),
+        call.kind,
+        hex(&call.table),
+        hex(&call.states),
+        if call.kind == Kind::Check { "record" } else { "words" },
+        hex(&call.words),
+        call.budget,
+    )
+}
+
+fn in_words(answer: u64) -> String {
+    format!("number {} plan {} step {}", number_of(answer), answer >> 16 & 0xFFFF, answer >> 32)
+}
+
+fn number_of(answer: u64) -> u64 {
+    answer & 0xFFFF
+}
+
+fn hex(bytes: &[u8]) -> String {
+    bytes.iter().map(|byte| format!("{byte:02x}")).collect()
+}
+
+// ------------------------------------------------------------------------------------------------
+// Talking with the child
+// ------------------------------------------------------------------------------------------------
+
+struct Talk {
+    process: Child,
+    /// None once it has been closed.
+    to_child: Option<ChildStdin>,
+    from_child: BufReader<ChildStdout>,
+}
+
+impl Talk {
+    fn start(command: &[String]) -> Result<Talk, String> {
+        let mut process = Command::new(&command[0])
+            .args(&command[1..])
+            .stdin(Stdio::piped())
+            .stdout(Stdio::piped())
+            .spawn()
+            .map_err(|error| format!("cannot start {}: {error}", command[0]))?;
+        let to_child = process.stdin.take();
+        let from_child = BufReader::new(process.stdout.take().expect("standard output is piped"));
+        Ok(Talk { process, to_child, from_child })
+    }
+
+    /// Sends a whole batch and reads the replies: fewer of them than calls if the child stops.
+    ///
+    /// One thread writes while this one reads. If one thread did both, child and tester could wait
+    /// for each other for ever: the child to get rid of an answer, the tester of a request. A third
+    /// thread ends a child that does not answer in time; the reader then sees that it has gone.
+    fn exchange(&mut self, batch: &[Asked], patience: Duration) -> Vec<Reply> {
+        let requests: Vec<u8> = batch.iter().flat_map(|asked| request(&asked.call)).collect();
+        let to_child = self.to_child.as_mut().expect("open until the end");
+        let from_child = &mut self.from_child;
+        let process = &mut self.process;
+        let (all_read, wait_for_all_read) = mpsc::channel::<()>();
+        std::thread::scope(|scope| {
+            // An error here means that the child has gone; the reader sees that too.
+            scope.spawn(move || to_child.write_all(&requests).and_then(|()| to_child.flush()).ok());
+            scope.spawn(move || {
+                if wait_for_all_read.recv_timeout(patience) == Err(RecvTimeoutError::Timeout) {
+                    process.kill().ok();
+                }
+            });
+            let reply = |asked: &Asked| read_reply(from_child, asked.call.states.len()).ok();
+            let replies = batch.iter().map_while(reply).collect();
+            drop(all_read);
+            replies
+        })
+    }
+
+    /// Ends the child's input; it must then say no more and end well.
+    fn finish(mut self) -> Result<(), String> {
+        self.to_child = None;
+        let mut rest = Vec::new();
+        self.from_child.read_to_end(&mut rest).map_err(|error| format!("cannot read: {error}"))?;
+        if !rest.is_empty() {
+            return Err(format!("the child wrote {} bytes after its last answer", rest.len()));
+        }
+        match self.process.wait() {
+            Ok(status) if status.success() => Ok(()),
+            Ok(status) => Err(format!("the child ended with {status}")),
+            Err(error) => Err(format!("cannot wait for the child: {error}")),
+        }
+    }
+}
+
+impl Drop for Talk {
+    /// A child is not left behind when the tester stops at a difference.
+    fn drop(&mut self) {
+        self.process.kill().ok();
+        self.process.wait().ok();
+    }
+}
+
+fn kind_number(kind: Kind) -> u8 {
+    match kind {
+        Kind::Step => 1,
+        Kind::Rest => 2,
+        Kind::Check => 3,
+    }
+}
+
+fn request(call: &Call) -> Vec<u8> {
+    let mut bytes = vec![kind_number(call.kind)];
+    for part in [&call.table, &call.states, &call.words] {
+        bytes.extend((part.len() as u32).to_le_bytes());
+    }
+    bytes.extend(call.budget.to_le_bytes());
+    for part in [&call.table, &call.states, &call.words] {
+        bytes.extend(part);
+    }
+    bytes
+}
+
+fn read_reply(from_child: &mut impl Read, states_length: usize) -> io::Result<Reply> {
+    let mut answer = [0; 8];
+    let mut states = vec![0; states_length];
+    let mut guards = [0];
+    from_child.read_exact(&mut answer)?;
+    from_child.read_exact(&mut states)?;
+    from_child.read_exact(&mut guards)?;
+    Ok(Reply { answer: u64::from_le_bytes(answer), states, guards: guards[0] })
+}
+
+/// The child stopped somewhere in these calls. Answers that it had not sent yet are lost, so each
+/// call is tried again with a child of its own.
+fn find_the_call_that_stops_the_child(options: &Options, unanswered: &[Asked]) -> String {
+    for asked in unanswered {
+        let alone = Talk::start(&options.child).map(|mut talk| {
+            let replies = talk.exchange(std::slice::from_ref(asked), options.patience);
+            (replies, talk.finish())
+        });
+        let what = match alone {
+            Err(message) => message,
+            Ok((replies, end)) => match (replies.first(), end) {
+                (None, end) => format!("no answer: {}", end.err().unwrap_or("the child ended".to_string())),
+                (Some(reply), Ok(())) => match difference(asked, reply) {
+                    None => continue,
+                    Some(difference) => difference,
+                },
+                (Some(_), Err(end)) => end,
+            },
+        };
+        return report(options.seed, asked, &what);
+    }
+    format!(
+        "DIFFERENCE\nseed {}\nthe child stopped in calls {} to {}, and on none of them alone",
+        options.seed,
+        unanswered[0].number,
+        unanswered[0].number + unanswered.len() as u64 - 1,
+    )
+}
+
+// ------------------------------------------------------------------------------------------------
+// Counting
+// ------------------------------------------------------------------------------------------------
+
+/// What new states a plan in state 0 to 8 can have after one step from states that may be handed
+/// in. Only these moves are possible, and all of them must be reached:
+/// - a plan in selection or execution has a parent in execution, which does not become Inactive
+///   again, so neither does it; it moves on, or is Rejected or Aborted;
+/// - an ended plan stays, or becomes Inactive when a plan above it is retried; Aborted is retried.
+const POSSIBLE_MOVES: [&[usize]; 9] =
+    [&[0, 1], &[1, 2, 8], &[2, 3, 8], &[3, 4, 8], &[4, 5, 6, 7], &[4, 5, 7], &[0, 6], &[0, 1, 7], &[0, 8]];
+
+const LAST_NUMBER: usize = 15;
+
+#[derive(Default)]
+struct Counts {
+    /// By kind (step, rest, check) and answer number.
+    answers: [[u64; LAST_NUMBER + 1]; 3],
+    /// By old and new state, in steps that were not refused.
+    moves: [[u64; 9]; 9],
+    /// Steps in which nothing moved.
+    still_steps: u64,
+    /// Steps that would have gone otherwise with picks 0, and the highest pick in one of them.
+    picks_that_decided: u64,
+    highest_pick_that_decided: usize,
+    most_steps_to_rest: u64,
+    /// Of runs that were not refused, by size of the budget and whether the run rested.
+    budgets: [[u64; 2]; BUDGET_SIZES.len()],
+    /// Of accepted records and of those refused in a step (12, 15): by the number of that step.
+    record_steps: [[u64; 3]; STEP_SIZES.len()],
+    accepted_steps: u64,
+    /// Accepted records with a step that picks 0 do not explain.
+    records_with_picks: u64,
+    /// Of calls whose table passed: by the number of plans, the most children of a plan, the depth.
+    table_sizes: [u64; TREE_SIZES.len()],
+    table_widths: [u64; TREE_SIZES.len()],
+    table_depths: [u64; TREE_SIZES.len()],
+}
+
+/// Classes of sizes: the name and the largest number in it.
+type Sizes<const N: usize> = [(&'static str, u64); N];
+const BUDGET_SIZES: Sizes<5> =
+    [("0", 0), ("1 to 16", 16), ("17 to 300", 300), ("301 to 65,534", 65_534), ("65,535", 65_535)];
+const STEP_SIZES: Sizes<6> =
+    [("0", 0), ("1", 1), ("2 to 8", 8), ("9 to 40", 40), ("41 to 65,534", 65_534), ("65,535", 65_535)];
+const TREE_SIZES: Sizes<7> = [
+    ("0 or 1", 1),
+    ("2 to 12", 12),
+    ("13 to 63", 63),
+    ("64", 64),
+    ("65 to 128", 128),
+    ("129 to 255", 255),
+    ("256", 256),
+];
+
+fn class(sizes: &[(&str, u64)], size: u64) -> usize {
+    sizes.iter().position(|&(_, largest)| size <= largest).expect("no size is above the largest")
+}
+
+impl Counts {
+    fn calls(&self) -> u64 {
+        self.answers.iter().flatten().sum()
+    }
+
+    fn add(&mut self, asked: &Asked) {
+        let number = number_of(asked.answer);
+        self.answers[usize::from(kind_number(asked.call.kind)) - 1][number as usize] += 1;
+        if number == 0 || number > 9 {
+            self.add_table(&asked.call.table);
+        }
+        match asked.call.kind {
+            Kind::Step if number == 0 => self.add_moves(asked),
+            Kind::Rest if number == 0 => self.add_run(asked),
+            Kind::Check => self.add_record(asked),
+            _ => {}
+        }
+    }
+
+    fn add_table(&mut self, table: &[u8]) {
+        let parents: Vec<usize> = table[8..]
+            .chunks_exact(8)
+            .map(|entry| usize::from(u16::from_le_bytes([entry[0], entry[1]])))
+            .collect();
+        let mut children = vec![0; parents.len()];
+        let mut depths = vec![1];
+        for &parent in &parents[1..] {
+            children[parent] += 1;
+            depths.push(depths[parent] + 1);
+        }
+        let largest = |numbers: &[u64]| numbers.iter().copied().max().unwrap_or(0);
+        self.table_sizes[class(&TREE_SIZES, parents.len() as u64)] += 1;
+        self.table_widths[class(&TREE_SIZES, largest(&children))] += 1;
+        self.table_depths[class(&TREE_SIZES, largest(&depths))] += 1;
+    }
+
+    fn add_moves(&mut self, asked: &Asked) {
+        for (&old, &new) in asked.call.states.iter().zip(&asked.states) {
+            self.moves[usize::from(old)][usize::from(new)] += 1;
+        }
+        self.still_steps += u64::from(asked.call.states == asked.states);
+        self.add_picks(asked);
+    }
+
+    fn add_picks(&mut self, asked: &Asked) {
+        let mut without_picks = asked.call.clone();
+        let mut highest = 0;
+        for word in without_picks.words.chunks_exact_mut(4) {
+            highest = highest.max(usize::from(word[3]));
+            word[3] = 0;
+        }
+        if highest > 0 && without_picks.ask_reference().1 != asked.states {
+            self.picks_that_decided += 1;
+            self.highest_pick_that_decided = self.highest_pick_that_decided.max(highest);
+        }
+    }
+
+    fn add_run(&mut self, asked: &Asked) {
+        let rested = asked.answer >> 16 & 0xFFFF == 0;
+        let size = class(&BUDGET_SIZES, u64::from(asked.call.budget));
+        self.budgets[size][usize::from(!rested)] += 1;
+        if rested {
+            self.most_steps_to_rest = self.most_steps_to_rest.max(asked.answer >> 32);
+        }
+    }
+
+    fn add_record(&mut self, asked: &Asked) {
+        let column = match number_of(asked.answer) {
+            0 => 0,
+            12 => 1,
+            15 => 2,
+            _ => return,
+        };
+        let step = asked.answer >> 32;
+        self.record_steps[class(&STEP_SIZES, step)][column] += 1;
+        if column == 0 {
+            self.accepted_steps += step;
+            self.records_with_picks += u64::from(picks_decided_in_record(&asked.call));
+        }
+    }
+
+    fn print(&self) {
+        self.print_answers();
+        self.print_moves();
+        println!(
+            "runs by budget               rested  still moving   (most steps to rest: {})",
+            self.most_steps_to_rest
+        );
+        for ((name, _), [rested, moving]) in BUDGET_SIZES.iter().zip(&self.budgets) {
+            println!("  {name:<20} {rested:>12} {moving:>13}");
+        }
+        println!("records by step            accepted  refused 12  refused 15");
+        for ((name, _), [accepted, twelve, fifteen]) in STEP_SIZES.iter().zip(&self.record_steps) {
+            println!("  {name:<20} {accepted:>12} {twelve:>11} {fifteen:>11}");
+        }
+        println!(
+            "  accepted steps in all: {}; accepted records that picks 0 do not explain: {}",
+            self.accepted_steps, self.records_with_picks
+        );
+        println!("calls on good tables by       plans  most children    depth");
+        for (at, (name, _)) in TREE_SIZES.iter().enumerate() {
+            let (plans, width, depth) = (self.table_sizes[at], self.table_widths[at], self.table_depths[at]);
+            println!("  {name:<20} {plans:>12} {width:>14} {depth:>8}");
+        }
+    }
+
+    fn print_answers(&self) {
+        let [step, rest, check] = &self.answers;
+        println!("answers            step       rest      check");
+        println!("  calls      {:>10} {:>10} {:>10}", sum(step), sum(rest), sum(check));
+        for number in 0..=LAST_NUMBER {
+            println!("  number {number:>2}  {:>10} {:>10} {:>10}", step[number], rest[number], check[number]);
+        }
+    }
+
+    fn print_moves(&self) {
+        println!(
+            "moves of plans in steps (old state down, new state across; steps without any move: {})",
+            self.still_steps
+        );
+        println!("     {}", (0..9).map(|new| format!("{new:>9}")).collect::<String>());
+        for (old, row) in self.moves.iter().enumerate() {
+            let cell = |new: usize| match (row[new], POSSIBLE_MOVES[old].contains(&new)) {
+                (0, false) => format!("{:>9}", "."),
+                (count, _) => format!("{count:>9}"),
+            };
+            println!("  {old}  {}", (0..9).map(cell).collect::<String>());
+        }
+        println!(
+            "steps that would have gone otherwise with picks 0: {} (highest pick: {})",
+            self.picks_that_decided, self.highest_pick_that_decided
+        );
+    }
+
+    /// Every number 1 to 15, every possible move, and no other.
+    fn all_reached(&self) -> Result<(), String> {
+        for number in 1..=LAST_NUMBER {
+            if self.answers.iter().all(|kind| kind[number] == 0) {
+                return Err(format!("NOT REACHED: answer number {number}"));
+            }
+        }
+        for old in 0..9 {
+            for new in 0..9 {
+                match (self.moves[old][new] > 0, POSSIBLE_MOVES[old].contains(&new)) {
+                    (false, true) => return Err(format!("NOT REACHED: the move from {old} to {new}")),
+                    (true, false) => {
+                        return Err(format!("IMPOSSIBLE, yet reached: the move from {old} to {new}"))
+                    }
+                    _ => {}
+                }
+            }
+        }
+        Ok(())
+    }
+}
+
+/// Whether some step of an accepted record would have gone otherwise with picks 0.
+fn picks_decided_in_record(call: &Call) -> bool {
+    let n = (call.table.len() - 8) / 8;
+    let mut states = vec![reference::INACTIVE; n];
+    call.words[8..].chunks_exact(5 * n).any(|part| {
+        let (words, shown) = part.split_at(4 * n);
+        reference::step(&call.table, &mut states, words);
+        let differs = states != shown;
+        states.copy_from_slice(shown);
+        differs
+    })
+}
+
+fn sum(counts: &[u64]) -> u64 {
+    counts.iter().sum()
+}

@@ -1,0 +1,122 @@
+//! Compares the lines that `aprcheck` prints with those of the reference, on random inputs.
+//!
+//!     lines PROGRAM [ARGS..] --seed S --inputs N
+//!
+//! starts PROGRAM anew for each input: a table and a record, as `cases` makes and spoils them, at times cut short, and at times longer
+//! than the program takes. A difference prints the seed and the input as hex, and the status is then 1.
+
+#[allow(dead_code)]
+mod cases;
+#[allow(dead_code)]
+mod reference;
+
+use cases::{Dice, Kind, Maker};
+use std::io::Write;
+use std::process::{Command, ExitCode, Stdio};
+
+/// "16: program input over 65,536 bytes"
+const MOST_BYTES: usize = 65_536;
+
+fn main() -> ExitCode {
+    let mut program = Vec::new();
+    let (mut seed, mut inputs) = (1, 300);
+    let mut arguments = std::env::args().skip(1);
+    while let Some(argument) = arguments.next() {
+        let mut number = || arguments.next().and_then(|text| text.parse().ok()).expect("a number");
+        match argument.as_str() {
+            "--seed" => seed = number(),
+            "--inputs" => inputs = number(),
+            _ => program.push(argument),
+        }
+    }
+    let mut maker = Maker::new(seed);
+    let mut dice = Dice::new(seed);
+    let mut accepted = 0;
+    for _ in 0..inputs {
+        let input = next_input(&mut maker, &mut dice);
+        let (expected, got) = (line(&input), printed(&program, &input));
+        if got != expected {
+            println!("DIFFERENCE\nseed {seed}\ninput {}\nexpected {expected:?}\nreceived {got:?}", hex(&input));
+            return ExitCode::FAILURE;
+        }
+        accepted += u64::from(expected.starts_with("accepted"));
+    }
+    println!("seed {seed}: {inputs} inputs, no difference, {accepted} accepted");
+    ExitCode::SUCCESS
+}
+
+/// A table and a record, one in ten cut somewhere, one in fifty filled up beyond what the program takes.
+fn next_input(maker: &mut Maker, dice: &mut Dice) -> Vec<u8> {
+    let call = loop {
+        let call = maker.next_call();
+        if call.kind == Kind::Check {
+            break call;
+        }
+    };
+    let mut input = [call.table, call.words].concat();
+    if dice.below(10) == 0 {
+        input.truncate(dice.below(input.len() + 1));
+    }
+    if dice.below(50) == 0 {
+        input.resize(dice.between(MOST_BYTES, MOST_BYTES + 2), 0);
+    }
+    input
+}
+
+/// The line for an input, with its end.
+fn line(input: &[u8]) -> String {
+    if input.len() > MOST_BYTES {
+        return "refused 16 0 0\n".to_string();
+    }
+    let (table, record) = input.split_at(table_length(input));
+    let answer = reference::check(table, record);
+    let (number, plan, step) = (answer & 0xFFFF, answer >> 16 & 0xFFFF, answer >> 32);
+    if number == 0 {
+        format!("accepted {} {step}\n", plan_count(input))
+    } else {
+        format!("refused {number} {step} {plan}\n")
+    }
+}
+
+/// "the table is its first 8 + 8n bytes, or all of it if there are fewer or if the first 8 bytes are missing or refused"
+fn table_length(input: &[u8]) -> usize {
+    let header_passes = match reference::read_table(&input[..input.len().min(8)]) {
+        Ok(_) => true,
+        // a header alone lacks its plans, and nothing else is wrong with it
+        Err(answer) => answer & 0xFFFF == 5,
+    };
+    let whole = 8 + 8 * plan_count(input);
+    if header_passes && whole <= input.len() {
+        whole
+    } else {
+        input.len()
+    }
+}
+
+fn plan_count(input: &[u8]) -> usize {
+    if input.len() < 7 {
+        0
+    } else {
+        usize::from(input[5]) + 256 * usize::from(input[6])
+    }
+}
+
+/// What the program prints for an input.
+fn printed(program: &[String], input: &[u8]) -> String {
+    let mut process = Command::new(&program[0])
+        .args(&program[1..])
+        .stdin(Stdio::piped())
+        .stdout(Stdio::piped())
+        .spawn()
+        .expect("the program starts");
+    let mut to_program = process.stdin.take().expect("a pipe");
+    // a program that has seen enough may stop reading
+    let _ = to_program.write_all(input);
+    drop(to_program);
+    let output = process.wait_with_output().expect("the program ends");
+    String::from_utf8_lossy(&output.stdout).into_owned()
+}
+
+fn hex(bytes: &[u8]) -> String {
+    bytes.iter().map(|byte| format!("{byte:02x}")).collect()
+}

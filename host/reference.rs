@@ -1,0 +1,924 @@
+//! A slow and plain implementation of document 01, "Requirements and rules for the build".
+//!
+//! It is written to be read beside the document: in its order, in its words, one small function
+//! for each rule. A sentence in quotation marks is document 01's own. Nothing here is clever; where
+//! a rule can be looked up again by walking over the whole table, it is.
+//!
+//! Tests, among them the brute-force search over all picks, are in self_test.rs.
+
+// ------------------------------------------------------------------------------------------------
+// States
+// ------------------------------------------------------------------------------------------------
+
+// "0 Inactive, 1 Considered, 2 Possible, 3 Ready, 4 Activated, 5 Suspended, 6 Completed,
+//  7 Aborted, 8 Rejected."
+pub const INACTIVE: u8 = 0;
+pub const CONSIDERED: u8 = 1;
+pub const POSSIBLE: u8 = 2;
+pub const READY: u8 = 3;
+pub const ACTIVATED: u8 = 4;
+pub const SUSPENDED: u8 = 5;
+pub const COMPLETED: u8 = 6;
+pub const ABORTED: u8 = 7;
+pub const REJECTED: u8 = 8;
+
+/// "Selection is 1 to 3"
+pub fn in_selection(state: u8) -> bool {
+    matches!(state, CONSIDERED | POSSIBLE | READY)
+}
+
+/// "execution 4 and 5"
+pub fn in_execution(state: u8) -> bool {
+    matches!(state, ACTIVATED | SUSPENDED)
+}
+
+/// "ended 6 to 8"
+pub fn has_ended(state: u8) -> bool {
+    matches!(state, COMPLETED | ABORTED | REJECTED)
+}
+
+// ------------------------------------------------------------------------------------------------
+// Plan table
+// ------------------------------------------------------------------------------------------------
+
+/// "Header of 8 bytes"
+pub const HEADER_BYTES: usize = 8;
+/// "Then 8 bytes a plan"
+pub const PLAN_BYTES: usize = 8;
+/// "16-bit plan count n (1 to 256)"
+pub const MOST_PLANS: usize = 256;
+/// "65535 for plan 0 only"
+pub const NO_PARENT: usize = 65_535;
+/// "At most 64 children a plan"
+pub const MOST_CHILDREN: usize = 64;
+
+// "0 leaf, 1 sequential, 2 parallel, 3 any-order, 4 unordered"
+pub const LEAF: u8 = 0;
+pub const SEQUENTIAL: u8 = 1;
+pub const PARALLEL: u8 = 2;
+pub const ANY_ORDER: u8 = 3;
+pub const UNORDERED: u8 = 4;
+
+// "bit 0 retry-aborted, bit 1 wait-for-optional, bit 2 named in the parent's wait-for"
+pub const RETRY_ABORTED: u32 = 0;
+pub const WAIT_FOR_OPTIONAL: u32 = 1;
+pub const NAMED: u32 = 2;
+
+// "bits 0 to 5 are filter, setup, suspend, reactivate, abort, complete"
+pub const FILTER: u32 = 0;
+pub const SETUP: u32 = 1;
+pub const SUSPEND: u32 = 2;
+pub const REACTIVATE: u32 = 3;
+pub const ABORT: u32 = 4;
+pub const COMPLETE: u32 = 5;
+
+/// One plan of a table that passed the checks 1 to 9.
+pub struct Plan {
+    /// None for plan 0.
+    pub parent: Option<usize>,
+    /// The numbers of the children in table order: "a child's rank counts from 0".
+    pub children: Vec<usize>,
+    pub body: u8,
+    pub flags: u8,
+    pub present: u8,
+    pub manual: u8,
+    pub overridable: u8,
+    /// "wait number m"
+    pub wait_number: u8,
+}
+
+impl Plan {
+    fn retries_aborted(&self) -> bool {
+        bit(self.flags, RETRY_ABORTED)
+    }
+
+    fn waits_for_optional(&self) -> bool {
+        bit(self.flags, WAIT_FOR_OPTIONAL)
+    }
+
+    fn is_named(&self) -> bool {
+        bit(self.flags, NAMED)
+    }
+}
+
+/// Bit number `number` of a byte or a word.
+fn bit(bits: impl Into<u32>, number: u32) -> bool {
+    bits.into() >> number & 1 == 1
+}
+
+/// "All numbers little-endian."
+fn number_of_16_bits(bytes: &[u8], at: usize) -> usize {
+    usize::from(u16::from_le_bytes([bytes[at], bytes[at + 1]]))
+}
+
+/// Byte `at` (0 to 7) of the entry of plan p.
+fn plan_byte(table: &[u8], p: usize, at: usize) -> u8 {
+    table[HEADER_BYTES + PLAN_BYTES * p + at]
+}
+
+/// "0-1 parent's number"
+fn parents_number(table: &[u8], p: usize) -> usize {
+    number_of_16_bits(table, HEADER_BYTES + PLAN_BYTES * p)
+}
+
+/// The plans among the first n whose parent is p, in table order.
+fn children_in_table(table: &[u8], n: usize, p: usize) -> Vec<usize> {
+    (1..n).filter(|&c| parents_number(table, c) == p).collect()
+}
+
+fn read_plan(table: &[u8], n: usize, p: usize) -> Plan {
+    Plan {
+        parent: if p == 0 { None } else { Some(parents_number(table, p)) },
+        children: children_in_table(table, n, p),
+        body: plan_byte(table, p, 2),
+        flags: plan_byte(table, p, 3),
+        present: plan_byte(table, p, 4),
+        manual: plan_byte(table, p, 5),
+        overridable: plan_byte(table, p, 6),
+        wait_number: plan_byte(table, p, 7),
+    }
+}
+
+/// "wait-for holds of a set of children when at least m named children are in it"; here the set is
+/// that of the children whose old state is in `set`.
+fn wait_for_holds(before: &Before, p: usize, set: impl Fn(u8) -> bool) -> bool {
+    let plan = &before.plans[p];
+    let named_in_set = plan
+        .children
+        .iter()
+        .filter(|&&child| before.plans[child].is_named() && set(before.states[child]))
+        .count();
+    named_in_set >= usize::from(plan.wait_number)
+}
+
+// ------------------------------------------------------------------------------------------------
+// Input words
+// ------------------------------------------------------------------------------------------------
+
+/// "A 32-bit word a plan and step." The bytes are a whole number of words.
+fn read_words(bytes: &[u8]) -> Vec<u32> {
+    bytes.chunks_exact(4).map(|four| u32::from_le_bytes([four[0], four[1], four[2], four[3]])).collect()
+}
+
+/// "Bits 0-5: pattern satisfied, in the order above."
+fn pattern_satisfied(word: u32, condition: u32) -> bool {
+    bit(word, condition)
+}
+
+/// "Bits 6, 7: filter, setup still satisfiable."
+fn pattern_satisfiable(word: u32, filter_or_setup: u32) -> bool {
+    bit(word, 6 + filter_or_setup)
+}
+
+/// "Bits 8-13 manual trigger."
+fn triggered(word: u32, condition: u32) -> bool {
+    bit(word, 8 + condition)
+}
+
+/// "Bits 14-19 override."
+fn overridden(word: u32, condition: u32) -> bool {
+    bit(word, 14 + condition)
+}
+
+/// "Bits 24-29 pick: a child's rank"
+fn pick_of(word: u32) -> usize {
+    (word >> 24 & 0b11_1111) as usize
+}
+
+/// "0 unless the body is any-order, below the number of children"
+fn may_be_picked(plan: &Plan, pick: usize) -> bool {
+    if plan.body == ANY_ORDER {
+        pick < plan.children.len()
+    } else {
+        pick == 0
+    }
+}
+
+/// "Other bits 0." They are 20 to 23, 30 and 31.
+fn has_unused_bit(word: u32) -> bool {
+    (20..24).chain(30..32).any(|number| bit(word, number))
+}
+
+/// "A present condition holds when (pattern satisfied, and triggered if it is manual) or
+/// (overridable and overridden)."
+fn present_condition_holds(plan: &Plan, word: u32, condition: u32) -> bool {
+    let manual = bit(plan.manual, condition);
+    let overridable = bit(plan.overridable, condition);
+    (pattern_satisfied(word, condition) && (!manual || triggered(word, condition)))
+        || (overridable && overridden(word, condition))
+}
+
+/// "Absent filter, setup, reactivate and complete always hold; absent suspend and abort never do"
+fn absent_condition_holds(condition: u32) -> bool {
+    matches!(condition, FILTER | SETUP | REACTIVATE | COMPLETE)
+}
+
+fn condition_holds(plan: &Plan, word: u32, condition: u32) -> bool {
+    if bit(plan.present, condition) {
+        present_condition_holds(plan, word, condition)
+    } else {
+        absent_condition_holds(condition)
+    }
+}
+
+/// "A present filter or setup is satisfiable when its bit says so or it is overridable". Of an
+/// absent one this is never asked, for it holds.
+fn condition_is_satisfiable(plan: &Plan, word: u32, filter_or_setup: u32) -> bool {
+    pattern_satisfiable(word, filter_or_setup) || bit(plan.overridable, filter_or_setup)
+}
+
+// ------------------------------------------------------------------------------------------------
+// One step
+// ------------------------------------------------------------------------------------------------
+
+/// What all plans of one step read: the table, the OLD states and the words.
+#[derive(Clone, Copy)]
+pub struct Before<'a> {
+    pub plans: &'a [Plan],
+    pub states: &'a [u8],
+    pub words: &'a [u32],
+}
+
+/// What a parent orders of one child in one step. An order is only obeyed in the state it is meant
+/// for: considers when Inactive, activates when Ready, retries when Aborted.
+struct Orders {
+    considers: bool,
+    activates: bool,
+    retries: bool,
+}
+
+const NO_ORDERS: Orders = Orders { considers: false, activates: false, retries: false };
+
+/// The new states of all plans: "Plans move in table order."
+pub fn new_states(before: &Before) -> Vec<u8> {
+    let mut new = Vec::new();
+    for (p, plan) in before.plans.iter().enumerate() {
+        let state = match plan.parent {
+            None => new_state_of_root(before),
+            // A parent has a lower number than its child, so its new state is known by now.
+            Some(parent) => new_state_of_child(before, p, parent, new[parent], pick_of(before.words[parent])),
+        };
+        new.push(state);
+    }
+    new
+}
+
+/// "The root acts as if under a parent that stays Activated, that considers it when Inactive and
+/// activates it when Ready."
+fn new_state_of_root(before: &Before) -> u8 {
+    let orders = Orders { considers: true, activates: true, retries: false };
+    new_state(before, 0, ACTIVATED, &orders)
+}
+
+/// "A plan reads its parent's NEW state and its children's and siblings' OLD states." The pick is
+/// the parent's; no other pick is read.
+fn new_state_of_child(before: &Before, p: usize, parent: usize, parent_new: u8, pick: usize) -> u8 {
+    let orders = orders_to(before, p, parent, parent_new, pick);
+    new_state(before, p, parent_new, &orders)
+}
+
+/// "By the parent's new state:"
+fn new_state(before: &Before, p: usize, parent_new: u8, orders: &Orders) -> u8 {
+    if parent_new == INACTIVE || in_selection(parent_new) {
+        // "Inactive or selection: the child becomes Inactive."
+        INACTIVE
+    } else if has_ended(parent_new) {
+        under_ended_parent(before.states[p])
+    } else {
+        under_executing_parent(before, p, parent_new, orders)
+    }
+}
+
+/// "Ended: selection becomes Rejected, execution Aborted, all else stays."
+fn under_ended_parent(old: u8) -> u8 {
+    if in_selection(old) {
+        REJECTED
+    } else if in_execution(old) {
+        ABORTED
+    } else {
+        old
+    }
+}
+
+/// "Activated or Suspended:" one rule for each old state.
+fn under_executing_parent(before: &Before, p: usize, parent_new: u8, orders: &Orders) -> u8 {
+    match before.states[p] {
+        INACTIVE => from_inactive(orders),
+        CONSIDERED => from_considered(before, p),
+        POSSIBLE => from_possible(before, p),
+        READY => from_ready(orders),
+        ACTIVATED => from_activated(before, p, parent_new),
+        SUSPENDED => from_suspended(before, p, parent_new),
+        ended => from_ended(ended, orders),
+    }
+}
+
+/// "Inactive: Considered if the parent considers it."
+fn from_inactive(orders: &Orders) -> u8 {
+    if orders.considers {
+        CONSIDERED
+    } else {
+        INACTIVE
+    }
+}
+
+/// "Considered: Possible if the filter holds; else Rejected if it is not satisfiable; else stays."
+fn from_considered(before: &Before, p: usize) -> u8 {
+    if condition_holds(&before.plans[p], before.words[p], FILTER) {
+        POSSIBLE
+    } else if !condition_is_satisfiable(&before.plans[p], before.words[p], FILTER) {
+        REJECTED
+    } else {
+        CONSIDERED
+    }
+}
+
+/// "Possible: likewise with setup, to Ready."
+fn from_possible(before: &Before, p: usize) -> u8 {
+    if condition_holds(&before.plans[p], before.words[p], SETUP) {
+        READY
+    } else if !condition_is_satisfiable(&before.plans[p], before.words[p], SETUP) {
+        REJECTED
+    } else {
+        POSSIBLE
+    }
+}
+
+/// "Ready: Activated if the parent activates it."
+fn from_ready(orders: &Orders) -> u8 {
+    if orders.activates {
+        ACTIVATED
+    } else {
+        READY
+    }
+}
+
+/// "Activated: first match of: Aborted ...; Suspended ...; Completed ..."
+fn from_activated(before: &Before, p: usize, parent_new: u8) -> u8 {
+    if must_abort(before, p) {
+        ABORTED
+    } else if must_suspend(before, p, parent_new) {
+        SUSPENDED
+    } else if may_complete(before, p) {
+        COMPLETED
+    } else {
+        ACTIVATED
+    }
+}
+
+/// "Suspended: Aborted as above; else Activated if the parent is Activated and reactivate holds."
+fn from_suspended(before: &Before, p: usize, parent_new: u8) -> u8 {
+    if must_abort(before, p) {
+        ABORTED
+    } else if may_reactivate(before, p, parent_new) {
+        ACTIVATED
+    } else {
+        SUSPENDED
+    }
+}
+
+/// "Ended: stays, but Aborted becomes Considered if the parent retries it."
+fn from_ended(old: u8, orders: &Orders) -> u8 {
+    if old == ABORTED && orders.retries {
+        CONSIDERED
+    } else {
+        old
+    }
+}
+
+/// "Aborted if abort holds or too many children are lost"
+fn must_abort(before: &Before, p: usize) -> bool {
+    condition_holds(&before.plans[p], before.words[p], ABORT) || too_many_are_lost(before, p)
+}
+
+/// "Too many are lost when wait-for fails of the children that are neither Rejected nor Aborted"
+fn too_many_are_lost(before: &Before, p: usize) -> bool {
+    !wait_for_holds(before, p, |state| state != REJECTED && state != ABORTED)
+}
+
+/// "Suspended if the parent is Suspended or suspend holds"
+fn must_suspend(before: &Before, p: usize, parent_new: u8) -> bool {
+    parent_new == SUSPENDED || condition_holds(&before.plans[p], before.words[p], SUSPEND)
+}
+
+/// "Completed if complete holds, wait-for holds of the Completed children, and, with
+/// wait-for-optional, all children are ended"
+fn may_complete(before: &Before, p: usize) -> bool {
+    condition_holds(&before.plans[p], before.words[p], COMPLETE)
+        && wait_for_holds(before, p, |state| state == COMPLETED)
+        && (!before.plans[p].waits_for_optional() || all_children_are_ended(before, p))
+}
+
+fn all_children_are_ended(before: &Before, p: usize) -> bool {
+    before.plans[p].children.iter().all(|&child| has_ended(before.states[child]))
+}
+
+/// "Activated if the parent is Activated and reactivate holds"
+fn may_reactivate(before: &Before, p: usize, parent_new: u8) -> bool {
+    parent_new == ACTIVATED && condition_holds(&before.plans[p], before.words[p], REACTIVATE)
+}
+
+/// The orders that a plan `parent` gives to its child p.
+fn orders_to(before: &Before, p: usize, parent: usize, parent_new: u8, pick: usize) -> Orders {
+    if !gives_orders(before, parent, parent_new) {
+        return NO_ORDERS;
+    }
+    match before.plans[parent].body {
+        SEQUENTIAL => sequential_orders(before, p, parent),
+        PARALLEL => parallel_orders(before, parent),
+        ANY_ORDER => any_order_orders(before, p, parent, pick),
+        _ => unordered_orders(before, parent),
+    }
+}
+
+/// "A parent gives orders only in a step where it was and stays Activated."
+fn gives_orders(before: &Before, parent: usize, parent_new: u8) -> bool {
+    before.states[parent] == ACTIVATED && parent_new == ACTIVATED
+}
+
+/// "Unordered: considers, activates and retries every child." And for all four bodies: "Retry is
+/// given only with retry-aborted, to Aborted children" (that it is Aborted, `from_ended` asks).
+fn unordered_orders(before: &Before, parent: usize) -> Orders {
+    Orders { considers: true, activates: true, retries: before.plans[parent].retries_aborted() }
+}
+
+/// "Sequential: orders only the first child not done."
+fn sequential_orders(before: &Before, p: usize, parent: usize) -> Orders {
+    if first_child_not_done(before.plans, before.states, parent) == Some(p) {
+        Orders { considers: true, activates: true, retries: before.plans[parent].retries_aborted() }
+    } else {
+        NO_ORDERS
+    }
+}
+
+fn first_child_not_done(plans: &[Plan], states: &[u8], parent: usize) -> Option<usize> {
+    plans[parent].children.iter().copied().find(|&child| !is_done(&plans[parent], states[child]))
+}
+
+/// "Done: Completed, Rejected, or Aborted without retry-aborted." The flag is the parent's.
+pub fn is_done(parent: &Plan, child_state: u8) -> bool {
+    match child_state {
+        COMPLETED | REJECTED => true,
+        ABORTED => !parent.retries_aborted(),
+        _ => false,
+    }
+}
+
+/// "Parallel: considers and retries all; activates Ready children when ..."
+fn parallel_orders(before: &Before, parent: usize) -> Orders {
+    Orders {
+        considers: true,
+        activates: parallel_gate_is_open(before, parent),
+        retries: before.plans[parent].retries_aborted(),
+    }
+}
+
+/// "when no child is 0, 1 or 2, or some child is 4, 5, 6 or 7"
+fn parallel_gate_is_open(before: &Before, parent: usize) -> bool {
+    let children = &before.plans[parent].children;
+    let none_on_its_way =
+        !children.iter().any(|&child| matches!(before.states[child], INACTIVE | CONSIDERED | POSSIBLE));
+    let some_went_through = children
+        .iter()
+        .any(|&child| matches!(before.states[child], ACTIVATED | SUSPENDED | COMPLETED | ABORTED));
+    none_on_its_way || some_went_through
+}
+
+/// "Any-order: considers and retries all; activates at most one"
+fn any_order_orders(before: &Before, p: usize, parent: usize, pick: usize) -> Orders {
+    Orders {
+        considers: true,
+        activates: child_activated_in_any_order(before, parent, pick) == Some(p),
+        retries: before.plans[parent].retries_aborted(),
+    }
+}
+
+/// "only if no child is in execution and, with retry-aborted, none is Aborted: the Ready child
+/// whose rank is the pick, else the Ready child of lowest rank"
+fn child_activated_in_any_order(before: &Before, parent: usize, pick: usize) -> Option<usize> {
+    let plan = &before.plans[parent];
+    let is = |child: usize, wanted: u8| before.states[child] == wanted;
+    if plan.children.iter().any(|&child| in_execution(before.states[child])) {
+        return None;
+    }
+    if plan.retries_aborted() && plan.children.iter().any(|&child| is(child, ABORTED)) {
+        return None;
+    }
+    let picked = plan.children.get(pick).copied().filter(|&child| is(child, READY));
+    let lowest = plan.children.iter().copied().find(|&child| is(child, READY));
+    picked.or(lowest)
+}
+
+// ------------------------------------------------------------------------------------------------
+// States that may be handed in
+// ------------------------------------------------------------------------------------------------
+
+/// "A plan breaks a rule when it does so together with lower-numbered plans." So this reads the
+/// states of plans 0 to p only, and the lower ones have been found to break none.
+pub fn breaks_a_rule(plans: &[Plan], states: &[u8], p: usize) -> bool {
+    !is_a_state(states[p])
+        || plans[p].parent.is_some_and(|parent| {
+            !suits_parent(states[p], states[parent])
+                || breaks_any_order(plans, states, parent, p)
+                || breaks_sequential(plans, states, parent, p)
+        })
+}
+
+/// "Bytes 0 to 8."
+fn is_a_state(byte: u8) -> bool {
+    byte <= REJECTED
+}
+
+/// "A child of a plan in 0, 1, 2, 3 or 8 is Inactive; of one in 6 or 7, Inactive or ended; of a
+/// Suspended one, not Activated." Of an Activated one it may be in any state.
+pub fn suits_parent(child: u8, parent: u8) -> bool {
+    match parent {
+        INACTIVE | CONSIDERED | POSSIBLE | READY | REJECTED => child == INACTIVE,
+        COMPLETED | ABORTED => child == INACTIVE || has_ended(child),
+        SUSPENDED => child != ACTIVATED,
+        _ => true,
+    }
+}
+
+/// "At most one child of an any-order plan is in execution." The second one breaks it.
+fn breaks_any_order(plans: &[Plan], states: &[u8], parent: usize, p: usize) -> bool {
+    plans[parent].body == ANY_ORDER
+        && in_execution(states[p])
+        && lower_siblings(plans, parent, p).any(|sibling| in_execution(states[sibling]))
+}
+
+/// "Of a sequential plan, every child after the first not done is Inactive." The later one breaks it.
+fn breaks_sequential(plans: &[Plan], states: &[u8], parent: usize, p: usize) -> bool {
+    plans[parent].body == SEQUENTIAL
+        && states[p] != INACTIVE
+        && lower_siblings(plans, parent, p).any(|sibling| !is_done(&plans[parent], states[sibling]))
+}
+
+fn lower_siblings(plans: &[Plan], parent: usize, p: usize) -> impl Iterator<Item = usize> + '_ {
+    plans[parent].children.iter().copied().filter(move |&sibling| sibling < p)
+}
+
+// ------------------------------------------------------------------------------------------------
+// Rest
+// ------------------------------------------------------------------------------------------------
+
+/// How a run under held words went, and the states that it leaves.
+#[derive(Debug, PartialEq)]
+pub enum Run {
+    Rested { after: u16, states: Vec<u8> },
+    StillMoving { states: Vec<u8> },
+}
+
+/// "rested after k, the least k up to the budget after which one more step changes nothing; or
+/// still moving, exactly when no such k exists. The states are those after k, or after the whole
+/// budget."
+fn run_to_rest(plans: &[Plan], states: &[u8], words: &[u32], budget: u16) -> Run {
+    let mut now = states.to_vec();
+    for k in 0..=budget {
+        let one_more = new_states(&Before { plans, states: &now, words });
+        if one_more == now {
+            return Run::Rested { after: k, states: now };
+        }
+        // The step after the budget was made only to see whether it changes something.
+        if k < budget {
+            now = one_more;
+        }
+    }
+    Run::StillMoving { states: now }
+}
+
+/// The same answer as `run_to_rest`, sooner for a run that goes round in a circle for 65,535 steps.
+///
+/// Why it is exact: table and words are held, so the states after a step are a function of the
+/// states before it and of nothing else. If the states after k are those after an earlier j, then
+/// the run from k repeats the run from j, with period k - j: for every later i the states after i
+/// are those after j + (i - j) mod (k - j). None of the states in the circle is at rest, for a run
+/// at rest was answered before it could repeat. So no k' up to any budget exists, and the states
+/// after the whole budget are among those already seen.
+fn run_to_rest_jumping(plans: &[Plan], states: &[u8], words: &[u32], budget: u16) -> Run {
+    let mut seen: Vec<Vec<u8>> = vec![states.to_vec()];
+    let mut first_seen_after = std::collections::HashMap::from([(states.to_vec(), 0)]);
+    for k in 0..=usize::from(budget) {
+        let one_more = new_states(&Before { plans, states: &seen[k], words });
+        if one_more == seen[k] {
+            return Run::Rested { after: k as u16, states: one_more };
+        }
+        if let Some(&j) = first_seen_after.get(&one_more) {
+            let period = k + 1 - j;
+            let like_after_budget = j + (usize::from(budget) - j) % period;
+            return Run::StillMoving { states: seen[like_after_budget].clone() };
+        }
+        first_seen_after.insert(one_more.clone(), k + 1);
+        seen.push(one_more);
+    }
+    Run::StillMoving { states: seen[usize::from(budget)].clone() }
+}
+
+// ------------------------------------------------------------------------------------------------
+// Record
+// ------------------------------------------------------------------------------------------------
+
+/// "Header as the table's with mark `APR`, version 1 and the same n." So its last byte is 0 too.
+fn record_header_is_right(record: &[u8], n: usize) -> bool {
+    record.len() >= HEADER_BYTES
+        && record[0..3] == *b"APR"
+        && number_of_16_bits(record, 3) == 1
+        && number_of_16_bits(record, 5) == n
+        && record[7] == 0
+}
+
+/// "for each step 4n bytes of words (pick bits 0) and n state bytes"
+fn step_bytes(n: usize) -> usize {
+    4 * n + n
+}
+
+/// "each step is read as a part of the record that starts in its middle": its words and the states
+/// that it shows. Steps count from 1.
+fn part_of_step(record: &[u8], n: usize, step: usize) -> (&[u8], &[u8]) {
+    let start = HEADER_BYTES + step_bytes(n) * (step - 1);
+    let part = &record[start..start + step_bytes(n)];
+    part.split_at(4 * n)
+}
+
+/// "For 15 the plan is the lowest p such that no picks explain plans 0 to p"; None when some picks
+/// explain all plans.
+///
+/// The search goes plan by plan. It keeps, for each plan q, the picks of q that are still possible,
+/// at first all that may be picked at all, and strikes out those that would give a child of q
+/// another state than the shown one. When none is left at plan p, no picks explain plans 0 to p.
+///
+/// Why this is a full search: picks explain plans 0 to p exactly when, for each plan i from 0 to p,
+/// the step with these picks gives i the shown state. Suppose this is so up to i - 1. Then the
+/// parent of i has, under these picks, just the new state that is shown; all else that i reads is
+/// the table, the old states and the words, and of all the picks only its parent's. So what is
+/// demanded of the picks by plan i is a demand on the pick of i's parent alone. "Picks explain 0 to
+/// p" is therefore a list of demands each of which speaks of one pick; picks of different plans are
+/// chosen freely of each other; so all demands can be met together exactly when, for each q, some
+/// pick of q meets all the demands on q. That is what stays in the sets. (Plans that are not
+/// any-order have the one pick 0, and it is treated as any other.)
+pub fn first_unexplained_plan(before: &Before, shown: &[u8]) -> Option<usize> {
+    let mut possible_picks: Vec<Vec<usize>> = before.plans.iter().map(all_picks).collect();
+    for (p, plan) in before.plans.iter().enumerate() {
+        match plan.parent {
+            None => {
+                if new_state_of_root(before) != shown[p] {
+                    return Some(p);
+                }
+            }
+            Some(parent) => {
+                let new_state_with = |pick| new_state_of_child(before, p, parent, shown[parent], pick);
+                possible_picks[parent].retain(|&pick| new_state_with(pick) == shown[p]);
+                if possible_picks[parent].is_empty() {
+                    return Some(p);
+                }
+            }
+        }
+    }
+    None
+}
+
+/// All picks that a word of this plan may carry.
+pub fn all_picks(plan: &Plan) -> Vec<usize> {
+    (0..MOST_CHILDREN).filter(|&pick| may_be_picked(plan, pick)).collect()
+}
+
+// ------------------------------------------------------------------------------------------------
+// Answer numbers
+// ------------------------------------------------------------------------------------------------
+
+/// Number + plan · 2^16 + step · 2^32. "Unnamed places are 0."
+pub type Answer = u64;
+
+pub fn answer(number: u64, plan: usize, step: usize) -> Answer {
+    number + ((plan as u64) << 16) + ((step as u64) << 32)
+}
+
+/// Done, or accepted, or rested.
+pub const DONE: u64 = 0;
+/// Where the run answers "still moving", this stands in the plan's place.
+pub const STILL_MOVING: usize = 1;
+
+/// A check gives its number, or lets the next one look.
+type Check = Result<(), Answer>;
+
+fn refuse_if(bad: bool, number: u64) -> Check {
+    if bad {
+        Err(answer(number, 0, 0))
+    } else {
+        Ok(())
+    }
+}
+
+/// "name the lowest plan concerned"
+fn refuse_lowest_plan(n: usize, number: u64, step: usize, is_concerned: impl Fn(usize) -> bool) -> Check {
+    match (0..n).find(|&p| is_concerned(p)) {
+        Some(p) => Err(answer(number, p, step)),
+        None => Ok(()),
+    }
+}
+
+/// The checks 1 to 9, "in this order, one number over the whole table or call before the next".
+pub fn read_table(table: &[u8]) -> Result<Vec<Plan>, Answer> {
+    // "1: table under 8 bytes"
+    refuse_if(table.len() < HEADER_BYTES, 1)?;
+    // "2: wrong mark"
+    refuse_if(table[0..3] != *b"APT", 2)?;
+    // "3: version not 1"
+    refuse_if(number_of_16_bits(table, 3) != 1, 3)?;
+    // "4: n outside 1..256, or header byte 7 not 0"
+    let n = number_of_16_bits(table, 5);
+    refuse_if(!(1..=MOST_PLANS).contains(&n) || table[7] != 0, 4)?;
+    // "5: table length not 8 + 8n"
+    refuse_if(table.len() != HEADER_BYTES + PLAN_BYTES * n, 5)?;
+    // "6: parent rule, or a 65th child"
+    refuse_lowest_plan(n, 6, 0, |p| breaks_parent_rule(table, p) || is_a_65th_child(table, p))?;
+    // From here on the children of every plan are known; bytes 2 to 7 may still be bad.
+    let plans: Vec<Plan> = (0..n).map(|p| read_plan(table, n, p)).collect();
+    // "7: body above 4, or an unused bit in bytes 3 to 6"
+    refuse_lowest_plan(n, 7, 0, |p| plans[p].body > UNORDERED || has_unused_bit_in_entry(&plans[p]))?;
+    // "8: body against children; manual or overridable on an absent condition; root named; leaf
+    //  with m or flag bits 0, 1"
+    refuse_lowest_plan(n, 8, 0, |p| {
+        body_is_against_children(&plans[p])
+            || changes_an_absent_condition(&plans[p])
+            || is_a_named_root(&plans[p])
+            || is_a_leaf_that_waits_or_retries(&plans[p])
+    })?;
+    // "9: m above the number of named children"
+    refuse_lowest_plan(n, 9, 0, |p| usize::from(plans[p].wait_number) > named_children(&plans, p))?;
+    Ok(plans)
+}
+
+/// "65535 for plan 0 only. Any other plan's parent is the plan just before it or an ancestor of
+/// that one." The plans below p have been found to keep the rule, so the walk up ends at plan 0.
+fn breaks_parent_rule(table: &[u8], p: usize) -> bool {
+    if p == 0 {
+        return parents_number(table, p) != NO_PARENT;
+    }
+    let mut candidate = p - 1;
+    loop {
+        if parents_number(table, p) == candidate {
+            return false;
+        }
+        if candidate == 0 {
+            return true;
+        }
+        candidate = parents_number(table, candidate);
+    }
+}
+
+/// "of too many children, the 65th": more than 64 plans up to this one have this one's parent.
+fn is_a_65th_child(table: &[u8], p: usize) -> bool {
+    let same_parent = (1..=p).filter(|&q| parents_number(table, q) == parents_number(table, p)).count();
+    same_parent > MOST_CHILDREN
+}
+
+/// Byte 3 uses bits 0 to 2, bytes 4 to 6 use bits 0 to 5.
+fn has_unused_bit_in_entry(plan: &Plan) -> bool {
+    plan.flags > 0b111 || plan.present > 0b11_1111 || plan.manual > 0b11_1111 || plan.overridable > 0b11_1111
+}
+
+/// "Leaf exactly when there are no children."
+fn body_is_against_children(plan: &Plan) -> bool {
+    (plan.body == LEAF) != plan.children.is_empty()
+}
+
+/// "manual or overridable on an absent condition"
+fn changes_an_absent_condition(plan: &Plan) -> bool {
+    (plan.manual | plan.overridable) & !plan.present != 0
+}
+
+/// "root named"
+fn is_a_named_root(plan: &Plan) -> bool {
+    plan.parent.is_none() && plan.is_named()
+}
+
+/// "leaf with m or flag bits 0, 1"
+fn is_a_leaf_that_waits_or_retries(plan: &Plan) -> bool {
+    plan.body == LEAF && (plan.wait_number != 0 || plan.retries_aborted() || plan.waits_for_optional())
+}
+
+fn named_children(plans: &[Plan], p: usize) -> usize {
+    plans[p].children.iter().filter(|&&child| plans[child].is_named()).count()
+}
+
+/// "12: word with an unused bit, a wrong pick ..., or filter or setup satisfied but not satisfiable,
+/// present or absent"
+fn word_is_wrong(plan: &Plan, word: u32) -> bool {
+    has_unused_bit(word) || !may_be_picked(plan, pick_of(word)) || is_satisfied_but_not_satisfiable(word)
+}
+
+/// "(in a record: any pick bit)"
+fn word_in_record_is_wrong(word: u32) -> bool {
+    has_unused_bit(word) || pick_of(word) != 0 || is_satisfied_but_not_satisfiable(word)
+}
+
+fn is_satisfied_but_not_satisfiable(word: u32) -> bool {
+    [FILTER, SETUP].iter().any(|&c| pattern_satisfied(word, c) && !pattern_satisfiable(word, c))
+}
+
+/// The checks 10 to 12 of a call of the step or the run.
+fn read_call(plans: &[Plan], states: &[u8], words: &[u8]) -> Result<Vec<u32>, Answer> {
+    let n = plans.len();
+    // "10: states not n bytes or words not 4n"
+    refuse_if(states.len() != n || words.len() != 4 * n, 10)?;
+    // "11: states handed in break a rule"
+    refuse_lowest_plan(n, 11, 0, |p| breaks_a_rule(plans, states, p))?;
+    let words = read_words(words);
+    // 12
+    refuse_lowest_plan(n, 12, 0, |p| word_is_wrong(&plans[p], words[p]))?;
+    Ok(words)
+}
+
+/// The checks 13 and 14: gives the number of steps.
+fn read_record(record: &[u8], n: usize) -> Result<usize, Answer> {
+    // "13: record header short or wrong"
+    refuse_if(!record_header_is_right(record, n), 13)?;
+    // "14: record body not a multiple of 5n, or over 65,535 steps"
+    let body = record.len() - HEADER_BYTES;
+    refuse_if(body % step_bytes(n) != 0 || body / step_bytes(n) > 65_535, 14)?;
+    Ok(body / step_bytes(n))
+}
+
+/// "step by step 12 before 15", each naming the step, "from 1". The first step starts from a tree
+/// in which nothing has begun.
+fn compare_steps(plans: &[Plan], record: &[u8], steps: usize) -> Check {
+    let n = plans.len();
+    let inactive = vec![INACTIVE; n];
+    let mut states: &[u8] = &inactive;
+    for step in 1..=steps {
+        let (words, shown) = part_of_step(record, n, step);
+        let words = read_words(words);
+        refuse_lowest_plan(n, 12, step, |p| word_in_record_is_wrong(words[p]))?;
+        // "15: states that no picks explain"
+        if let Some(p) = first_unexplained_plan(&Before { plans, states, words: &words }, shown) {
+            return Err(answer(15, p, step));
+        }
+        states = shown;
+    }
+    Ok(())
+}
+
+// ------------------------------------------------------------------------------------------------
+// The calls. "No refusal changes lent bytes": the states are written after the last check only.
+// ------------------------------------------------------------------------------------------------
+
+/// One synchronous step: "The step and the run write the new states over the states handed in."
+pub fn step(table: &[u8], states: &mut [u8], words: &[u8]) -> Answer {
+    try_step(table, states, words).unwrap_or_else(|refusal| refusal)
+}
+
+fn try_step(table: &[u8], states: &mut [u8], words: &[u8]) -> Result<Answer, Answer> {
+    let plans = read_table(table)?;
+    let words = read_call(&plans, states, words)?;
+    let new = new_states(&Before { plans: &plans, states, words: &words });
+    states.copy_from_slice(&new);
+    Ok(answer(DONE, 0, 0))
+}
+
+/// Running to rest under held words.
+#[allow(dead_code)] // The tester calls `rest_jumping`, which the tests compare with this one.
+pub fn rest(table: &[u8], states: &mut [u8], words: &[u8], budget: u16) -> Answer {
+    try_rest(table, states, words, budget, run_to_rest).unwrap_or_else(|refusal| refusal)
+}
+
+/// The same, with the jump over the rounds of a circle.
+pub fn rest_jumping(table: &[u8], states: &mut [u8], words: &[u8], budget: u16) -> Answer {
+    try_rest(table, states, words, budget, run_to_rest_jumping).unwrap_or_else(|refusal| refusal)
+}
+
+type RunToRest = fn(&[Plan], &[u8], &[u32], u16) -> Run;
+
+fn try_rest(
+    table: &[u8],
+    states: &mut [u8],
+    words: &[u8],
+    budget: u16,
+    run: RunToRest,
+) -> Result<Answer, Answer> {
+    let plans = read_table(table)?;
+    let words = read_call(&plans, states, words)?;
+    match run(&plans, states, &words, budget) {
+        Run::Rested { after, states: at_rest } => {
+            states.copy_from_slice(&at_rest);
+            Ok(answer(DONE, 0, usize::from(after)))
+        }
+        Run::StillMoving { states: after_budget } => {
+            states.copy_from_slice(&after_budget);
+            Ok(answer(DONE, STILL_MOVING, usize::from(budget)))
+        }
+    }
+}
+
+/// Checking a record: "Acceptance returns the number of steps."
+pub fn check(table: &[u8], record: &[u8]) -> Answer {
+    try_check(table, record).unwrap_or_else(|refusal| refusal)
+}
+
+/// "the checker goes 1-9, 13, 14, then step by step"
+fn try_check(table: &[u8], record: &[u8]) -> Result<Answer, Answer> {
+    let plans = read_table(table)?;
+    let steps = read_record(record, plans.len())?;
+    compare_steps(&plans, record, steps)?;
+    Ok(answer(DONE, 0, steps))
+}

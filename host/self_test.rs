@@ -1,0 +1,322 @@
+//! Tests of the reference itself: `rustc --test differ.rs`.
+
+use crate::cases::{self, Dice};
+use crate::reference::{self, answer, Before, Plan};
+
+// ------------------------------------------------------------------------------------------------
+// "Small protocols to try"
+// ------------------------------------------------------------------------------------------------
+
+/// "T1: root any-order, m 2, no conditions; leaves 1 and 2, named, complete present."
+const T1: [u8; 32] = [
+    0x41, 0x50, 0x54, 0x01, 0x00, 0x03, 0x00, 0x00, //
+    0xFF, 0xFF, 0x03, 0x00, 0x00, 0x00, 0x00, 0x02, //
+    0x00, 0x00, 0x00, 0x04, 0x20, 0x00, 0x00, 0x00, //
+    0x00, 0x00, 0x00, 0x04, 0x20, 0x00, 0x00, 0x00,
+];
+
+/// T1 with other bytes: pairs of a place and a byte.
+fn t1_with(changes: &[(usize, u8)]) -> Vec<u8> {
+    let mut table = T1.to_vec();
+    for &(at, byte) in changes {
+        table[at] = byte;
+    }
+    table
+}
+
+/// The place of byte `at` of plan p's entry.
+fn place(p: usize, at: usize) -> usize {
+    8 + 8 * p + at
+}
+
+fn bytes(words: [u32; 3]) -> Vec<u8> {
+    words.iter().flat_map(|word| word.to_le_bytes()).collect()
+}
+
+fn expect_step(table: &[u8], from: [u8; 3], words: [u32; 3], to: [u8; 3]) {
+    let mut states = from;
+    assert_eq!(reference::step(table, &mut states, &bytes(words)), 0);
+    assert_eq!(states, to, "from {from:?} with {words:?}");
+}
+
+fn expect_refusal(table: &[u8], states: [u8; 3], words: [u32; 3], expected: u64) {
+    let mut lent = states;
+    assert_eq!(reference::step(table, &mut lent, &bytes(words)), expected);
+    assert_eq!(lent, states);
+}
+
+const FIRST_EIGHT: [[u8; 3]; 8] =
+    [[1, 0, 0], [2, 0, 0], [3, 0, 0], [4, 0, 0], [4, 1, 1], [4, 2, 2], [4, 3, 3], [4, 4, 3]];
+
+#[test]
+fn t1_from_000() {
+    let mut states = [0, 0, 0];
+    for expected in FIRST_EIGHT {
+        expect_step(&T1, states, [0, 0, 0], expected);
+        states = expected;
+    }
+}
+
+#[test]
+fn t1_picks_and_completes() {
+    expect_step(&T1, [4, 3, 3], [1 << 24, 0, 0], [4, 3, 4]);
+    expect_step(&T1, [4, 4, 3], [0, 32, 0], [4, 6, 3]);
+    expect_step(&T1, [4, 6, 3], [0, 0, 0], [4, 6, 4]);
+    expect_step(&T1, [4, 6, 4], [0, 0, 32], [4, 6, 6]);
+    expect_step(&T1, [4, 6, 6], [0, 0, 0], [6, 6, 6]);
+}
+
+#[test]
+fn t1_rests() {
+    for rest in [reference::rest, reference::rest_jumping] {
+        let mut states = [0, 0, 0];
+        assert_eq!(rest(&T1, &mut states, &bytes([0, 0, 0]), 8), answer(0, 0, 8));
+        assert_eq!(states, [4, 4, 3]);
+        let mut states = [0, 0, 0];
+        assert_eq!(rest(&T1, &mut states, &bytes([0, 0, 0]), 7), answer(0, 1, 7));
+        assert_eq!(states, [4, 3, 3]);
+    }
+}
+
+#[test]
+fn t1_loses_children() {
+    expect_step(&T1, [4, 7, 3], [0, 0, 0], [7, 7, 8]);
+    let m_1 = t1_with(&[(place(0, 7), 1)]);
+    expect_step(&m_1, [4, 7, 3], [0, 0, 0], [4, 7, 4]);
+    let m_1_and_retry = t1_with(&[(place(0, 7), 1), (place(0, 3), 1)]);
+    expect_step(&m_1_and_retry, [4, 7, 3], [0, 0, 0], [4, 1, 3]);
+}
+
+#[test]
+fn t1_with_conditions() {
+    let abort = t1_with(&[(place(0, 4), 16)]);
+    expect_step(&abort, [4, 4, 3], [16, 0, 0], [7, 7, 8]);
+    let suspend = t1_with(&[(place(0, 4), 4)]);
+    expect_step(&suspend, [4, 4, 3], [4, 0, 0], [5, 5, 3]);
+    expect_step(&suspend, [4, 4, 3], [4, 32, 0], [5, 5, 3]);
+    expect_step(&suspend, [5, 5, 3], [0, 0, 0], [4, 4, 3]);
+    let filter = t1_with(&[(place(1, 4), 33)]);
+    expect_step(&filter, [4, 1, 1], [0, 0, 0], [4, 8, 2]);
+    expect_step(&filter, [4, 1, 1], [0, 64, 0], [4, 1, 2]);
+    expect_step(&filter, [4, 1, 1], [0, 65, 0], [4, 2, 2]);
+}
+
+#[test]
+fn t1_refused() {
+    expect_refusal(&T1, [0, 0, 0], [0, 1, 0], answer(12, 1, 0));
+    expect_refusal(&T1, [0, 0, 0], [2 << 24, 0, 0], answer(12, 0, 0));
+    expect_refusal(&T1, [4, 4, 4], [0, 0, 0], answer(11, 2, 0));
+    expect_refusal(&t1_with(&[(place(0, 7), 3)]), [0, 0, 0], [0, 0, 0], answer(9, 0, 0));
+    expect_refusal(&T1[..31], [0, 0, 0], [0, 0, 0], answer(5, 0, 0));
+}
+
+/// A root with n - 1 leaves that hang on the root, or on plan 1 from plan 65 on.
+fn wide_table(n: usize, on_root: usize) -> Vec<u8> {
+    let mut table = b"APT\x01\x00".to_vec();
+    table.extend((n as u16).to_le_bytes());
+    table.push(0);
+    table.extend([255, 255, 4, 0, 0, 0, 0, 0]);
+    for p in 1..n {
+        let parent: u16 = if p <= on_root { 0 } else { p as u16 - 1 };
+        let body = if p >= on_root && p + 1 < n { 4 } else { 0 };
+        table.extend(parent.to_le_bytes());
+        table.extend([body, 0, 0, 0, 0, 0]);
+    }
+    table
+}
+
+#[test]
+fn sizes() {
+    let number = |table: &[u8]| reference::read_table(table).err().unwrap_or(0);
+    assert_eq!(number(&wide_table(257, 64)), answer(4, 0, 0));
+    assert_eq!(number(&wide_table(256, 64)), 0);
+    assert_eq!(number(&wide_table(100, 65)), answer(6, 65, 0));
+    assert_eq!(number(&wide_table(100, 64)), 0);
+    for length in 0..8 {
+        assert_eq!(number(&T1[..length]), answer(1, 0, 0));
+    }
+    assert_eq!(number(&T1[..8]), answer(5, 0, 0));
+}
+
+fn record_of(steps: &[[u8; 3]]) -> Vec<u8> {
+    let mut record = b"APR\x01\x00\x03\x00\x00".to_vec();
+    for states in steps {
+        record.extend([0; 12]);
+        record.extend(states);
+    }
+    record
+}
+
+#[test]
+fn records_of_t1() {
+    let mut steps = FIRST_EIGHT;
+    assert_eq!(reference::check(&T1, &record_of(&[])), answer(0, 0, 0));
+    assert_eq!(reference::check(&T1, &record_of(&steps)), answer(0, 0, 8));
+    steps[7] = [4, 3, 4];
+    assert_eq!(reference::check(&T1, &record_of(&steps)), answer(0, 0, 8));
+    steps[7] = [4, 3, 3];
+    assert_eq!(reference::check(&T1, &record_of(&steps)), answer(15, 2, 8));
+    steps[7] = [4, 4, 4];
+    assert_eq!(reference::check(&T1, &record_of(&steps)), answer(15, 2, 8));
+    steps[7] = [4, 9, 4];
+    assert_eq!(reference::check(&T1, &record_of(&steps)), answer(15, 1, 8));
+    assert_eq!(reference::check(&T1, b"APR\x01\x00\x03\x00"), answer(13, 0, 0));
+    assert_eq!(reference::check(&T1, &record_of(&steps)[..22]), answer(14, 0, 0));
+}
+
+// ------------------------------------------------------------------------------------------------
+// Random comparisons
+// ------------------------------------------------------------------------------------------------
+
+/// A small good table, states that may be handed in and good words.
+fn small_case(dice: &mut Dice, most_plans: usize) -> (Vec<Plan>, Vec<u8>, Vec<u32>) {
+    let n = dice.between(1, most_plans);
+    let table = cases::good_table(dice, n);
+    let plans = reference::read_table(&table).unwrap_or_else(|_| panic!("a good table"));
+    let states = cases::good_states(dice, &plans);
+    let mood = cases::mood(dice);
+    let words = cases::good_words(dice, &plans, &mood);
+    (plans, states, words)
+}
+
+/// Two or three any-order plans that go on side by side below an unordered root, most of them with
+/// several Ready children: here the picks of different plans could get into each other's way.
+fn case_with_choices(dice: &mut Dice) -> (Vec<Plan>, Vec<u8>, Vec<u32>) {
+    let mut table = Vec::new();
+    let mut states = vec![reference::ACTIVATED];
+    let mut add_plan = |parent: usize, body: u8, retry: bool| {
+        table.extend((parent as u16).to_le_bytes());
+        // Complete is present and never satisfied where there are children, so that they go on.
+        let present = if body == reference::LEAF { 0 } else { 1 << reference::COMPLETE };
+        table.extend([body, u8::from(retry), present, 0, 0, 0]);
+        table.len() / 8 - 1
+    };
+    let root = add_plan(reference::NO_PARENT, reference::UNORDERED, false);
+    for _ in 0..dice.between(2, 3) {
+        let chooser = add_plan(root, reference::ANY_ORDER, dice.percent(30));
+        states.push(dice.one_of(&[4, 4, 4, 4, 5, 3]));
+        for _ in 0..dice.between(1, 4) {
+            add_plan(chooser, reference::LEAF, false);
+            let may_begin = states[chooser] != reference::READY;
+            states.push(if may_begin { dice.one_of(&[3, 3, 3, 3, 3, 2, 6, 7, 8]) } else { 0 });
+        }
+    }
+    let mut whole = b"APT\x01\x00".to_vec();
+    whole.extend([states.len() as u8, 0, 0]);
+    whole.extend(table);
+    let plans = reference::read_table(&whole).unwrap_or_else(|answer| panic!("refused: {answer:x}"));
+    let words = vec![0; plans.len()];
+    (plans, states, words)
+}
+
+/// Every combination of picks in turn, each as the words of a whole step.
+fn words_with_all_picks(plans: &[Plan], words: &[u32]) -> Vec<Vec<u32>> {
+    let mut combinations: Vec<Vec<u32>> = vec![Vec::new()];
+    for (plan, &word) in plans.iter().zip(words) {
+        let without_pick = word & !(63 << 24);
+        combinations = combinations
+            .iter()
+            .flat_map(|begun| {
+                reference::all_picks(plan).into_iter().map(move |pick| {
+                    let mut longer = begun.clone();
+                    longer.push(without_pick | (pick as u32) << 24);
+                    longer
+                })
+            })
+            .collect();
+    }
+    combinations
+}
+
+/// The lowest p such that no combination of picks explains plans 0 to p, by trying them all: each
+/// combination explains the plans up to its first difference, and the one that comes furthest counts.
+fn first_unexplained_by_brute_force(before: &Before, shown: &[u8]) -> Option<usize> {
+    let furthest = words_with_all_picks(before.plans, before.words)
+        .iter()
+        .map(|words| {
+            let states = reference::new_states(&Before { words, ..*before });
+            states.iter().zip(shown).take_while(|(new, shown)| new == shown).count()
+        })
+        .max()
+        .expect("there is at least one combination");
+    (furthest < shown.len()).then_some(furthest)
+}
+
+/// What a step with these words shows, with up to three plans changed.
+fn nearly_shown(dice: &mut Dice, before: &Before) -> Vec<u8> {
+    let mut shown = reference::new_states(before);
+    for _ in 0..dice.below(4) {
+        let p = dice.below(shown.len());
+        shown[p] = dice.one_of(&[0, 1, 2, 3, 3, 3, 4, 4, 4, 5, 6, 7, 8, 9, 255]);
+    }
+    shown
+}
+
+/// The plans whose pick decides which of their children is activated.
+fn plans_with_a_choice(before: &Before) -> usize {
+    let first_picks: Vec<u32> = before.words.iter().map(|word| word & !(63 << 24)).collect();
+    let usual = reference::new_states(&Before { words: &first_picks, ..*before });
+    let matters = |p: usize| {
+        reference::all_picks(&before.plans[p]).into_iter().any(|pick| {
+            let mut words = first_picks.clone();
+            words[p] |= (pick as u32) << 24;
+            reference::new_states(&Before { words: &words, ..*before }) != usual
+        })
+    };
+    (0..before.plans.len()).filter(|&p| matters(p)).count()
+}
+
+#[test]
+fn plan_by_plan_search_finds_what_brute_force_finds() {
+    let mut dice = Dice::new(1);
+    // Cases that were explained and unexplained, by the number of plans that had a choice.
+    let (mut explained, mut unexplained) = ([0; 4], [0; 4]);
+    for _ in 0..50_000 {
+        let (plans, states, words) =
+            if dice.percent(50) { small_case(&mut dice, 9) } else { case_with_choices(&mut dice) };
+        let before = Before { plans: &plans, states: &states, words: &words };
+        let shown = nearly_shown(&mut dice, &before);
+        let found = reference::first_unexplained_plan(&before, &shown);
+        assert_eq!(found, first_unexplained_by_brute_force(&before, &shown));
+        let choices = plans_with_a_choice(&before);
+        match found {
+            None => explained[choices] += 1,
+            Some(_) => unexplained[choices] += 1,
+        }
+    }
+    println!("by plans with a choice: explained {explained:?}, unexplained {unexplained:?}");
+    assert!(explained.into_iter().chain(unexplained).all(|count| count > 30));
+}
+
+#[test]
+fn jumping_run_answers_as_the_plain_one() {
+    let mut dice = Dice::new(2);
+    let mut moving = 0;
+    for _ in 0..10_000 {
+        let n = dice.between(1, 8);
+        let table = cases::good_table(&mut dice, n);
+        let plans = reference::read_table(&table).unwrap_or_else(|_| panic!("a good table"));
+        let mut states = cases::good_states(&mut dice, &plans);
+        let mood = cases::mood(&mut dice);
+        let words: Vec<u8> =
+            cases::good_words(&mut dice, &plans, &mood).iter().flat_map(|word| word.to_le_bytes()).collect();
+        let budget = dice.one_of(&[0, 1, 5, 20, 60, 61, 62, 63, 64, 65, 66, 67, 65_535]);
+        let mut jumped = states.clone();
+        let plain = reference::rest(&table, &mut states, &words, budget);
+        assert_eq!(reference::rest_jumping(&table, &mut jumped, &words, budget), plain);
+        assert_eq!(jumped, states);
+        moving += u64::from(plain >> 16 & 0xFFFF == 1 && budget >= 60);
+    }
+    println!("still moving after 60 steps and more: {moving}");
+    assert!(moving > 100);
+}
+
+#[test]
+fn states_that_may_be_handed_in_lead_to_such_states() {
+    let mut dice = Dice::new(3);
+    for _ in 0..20_000 {
+        let (plans, states, words) = small_case(&mut dice, 14);
+        let new = reference::new_states(&Before { plans: &plans, states: &states, words: &words });
+        assert!((0..plans.len()).all(|p| !reference::breaks_a_rule(&plans, &new, p)));
+    }
+}
