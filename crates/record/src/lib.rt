@@ -26,6 +26,8 @@ use rules::Verdict;
 use rules::parent_at;
 use rules::u16_at;
 use rules::word_at;
+use step::ByParent;
+use step::by_parent;
 use step::next_child;
 use step::next_root;
 use step::other_bits;
@@ -144,17 +146,13 @@ fn next_shown(
         return next_root(table, ranks, names, sets, old, words);
     }
     let q = parent_at(table, p);
-    next_child(
-        table,
-        ranks,
-        names,
-        sets,
-        old,
-        words,
-        shown,
-        p,
-        wide(chosen[q]),
-    )
+    match by_parent(PlanState::from_byte(shown[q]), PlanState::from_byte(old[p])) {
+        ByParent::Settled(state) => state,
+        ByParent::Open => {
+            let rank = wide(chosen[q]);
+            next_child(table, ranks, names, sets, old, words, shown, p, rank)
+        }
+    }
 }
 
 // The steps of a record of good form, one after the other, and in each its plans: the first step with a wrong word or with a plan that

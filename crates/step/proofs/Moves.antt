@@ -3,18 +3,21 @@ use Prim.Native.Nat.{ℕ, zero, suc, _+_, _<_}
 use native.Mathlib.Omega.{arith}
 use native.Mathlib.Numerals.{add-one}
 use mathlib.Core.Path.{_≡_, refl, sym, ap, _∙_}
-use mathlib.Core.Bool.{Bool, true, false, _&&_, _||_, true≢false}
+use mathlib.Core.Bool.{Bool, true, false, cond, _&&_, _||_, true≢false}
 use mathlib.Core.List.{List, [], _∷_, _++_}
 use lib.Dec.{eqb, ltb, eqb-refl}
 use lib.ListN.{length, take, set}
 use lib.Seq.{getD-take, take-suc-set}
 use Rattle.rules.specs.Bytes.{byteAt}
 use Rattle.rules.specs.States.{code, stateOf, stateAt, oneOf, is, inSelection, inExecution, ended}
-use Rattle.rules.specs.Table.{planCount, parent, rank}
+use Rattle.rules.specs.Table.{planCount, parent, entry, rank}
 use Rattle.rules.specs.Words.{word, pickOf}
 use Rattle.rules.specs.Step.{
+  moveOn,
   cutOff,
   move,
+  tooManyLost,
+  childrenComplete,
   chosen,
   orders,
   none,
@@ -40,6 +43,8 @@ use Rattle.rules.specs.declared.PlanState.the-variants.{
   Aborted,
   Rejected,
 }
+use Rattle.step.specs.declared.ByParent.the-variants.{Settled, Open}
+use Rattle.step.specs.ByParent.{byParent}
 use Rattle.step.specs.Brood.{Child, Own}
 use Rattle.step.specs.Scene.{Scene}
 
@@ -93,14 +98,22 @@ dormant-test Completed = refl
 dormant-test Aborted = refl
 dormant-test Rejected = refl
 
--- the move under a parent that has not begun, and under one that has ended
-module _ (parent : PlanState) (o : Orders) (e : PlanEntry) (x : ℕ) (lost complete : Bool) (old : PlanState) where
-  pub dormant-move : (is Inactive parent || inSelection parent) ≡ true → Inactive ≡ move parent o e x lost complete old
-  dormant-move h = rw h refl
+-- a state that is settled by the parent's is the move's
+pub settled-move :
+    (parent : PlanState) (o : Orders) (e : PlanEntry) (x : ℕ) (lost complete : Bool) (old r : PlanState)
+    → byParent parent old ≡ Settled r → r ≡ move parent o e x lost complete old
+unfolding byParent
+settled-move parent o e x lost complete old r = go (is Inactive parent || inSelection parent) (ended parent)
+  where
+    rest : PlanState
+    rest = moveOn (is Suspended parent) o e x lost complete old
 
-  pub ended-move :
-      (is Inactive parent || inSelection parent) ≡ false → ended parent ≡ true → cutOff old ≡ move parent o e x lost complete old
-  ended-move d h = rw (d, h) refl
+    go :
+        (dormant done : Bool) → cond dormant (Settled Inactive) (cond done (Settled (cutOff old)) Open) ≡ Settled r
+        → r ≡ cond dormant Inactive (cond done (cutOff old) rest)
+    go true done h = cc
+    go false true h = cc
+    go false false h = let z : _≡_ {A = ℕ} 0 1 = cc in absurd (omega arith)
 
 -- what plan p's move reads of its own
 pub own : (t s w ranks names sets : List ℕ) → Scene t s w ranks names sets → (p : ℕ) → p < planCount t → Own t s w names sets p
@@ -151,6 +164,16 @@ module _ (t s w : List ℕ) (choice : ℕ → ℕ) where
         (λ (x : ℕ). moveOf t s w choice (stateAt new x) (ordersIf t s w choice (stateAt s x) (stateAt new x) x p) p)
         is-parent
         ∙ sym (new-child new p h)
+
+    -- where the parent's new state settles it
+    pub child-settled :
+        (after old r : PlanState) → after ≡ stateOf (byteAt new q) → old ≡ stateOf (byteAt s p) → byParent after old ≡ Settled r
+        → r ≡ newState t s w choice new p
+    child-settled after old r ea eo e =
+        let settled = ap (λ (x : PlanState). byParent after x) (sym (eo ∙ sym (state-is s p))) ∙ e in
+        child-move after r ea
+        (settled-move after (ordersIf t s w choice (stateAt s q) after q p) (entry t p) (word w p) (tooManyLost t s p)
+        (childrenComplete t s p) (stateAt s p) r settled)
 
     pub same-choice : (chosen : ℕ) → eqb (rank t p) chosen ≡ eqb p (choice (parent t p)) → eqb (rank t p) chosen ≡ eqb p (choice q)
     same-choice chosen e = rw is-parent e

@@ -3,3 +3,4 @@ pub mod Brood
 pub mod Scene
 pub mod HandedIn
 pub mod Calls
+pub mod ByParent

@@ -23,6 +23,7 @@ ghost use Rattle.step.specs.Calls.{Counted, Tabled, Called, Ready};
 ghost use Rattle.rules.specs.declared.PlanState.the-variants.{Inactive, Activated, Aborted};
 ghost use Rattle.rules.specs.declared.PlanState.the-variants.{Ready as State·Ready};
 ghost use Rattle.step.specs.Brood.{Brood, Child, Own};
+ghost use Rattle.step.specs.ByParent.{byParent};
 ghost use Rattle.step.specs.Scene.{Scene};
 use children::survey;
 use rules::Body;
@@ -393,8 +394,27 @@ fn is_dormant(state: PlanState) -> bool
     state.to_byte() < PlanState::ACTIVATED
 }
 
+// What a child's new state is by its parent's alone, or that it is open.
+pub enum ByParent {
+    Settled(PlanState),
+    Open,
+}
+
+// The new state of a child under a parent that has not begun or has ended. Most plans of a tree stand so: callers ask this first.
+pub fn by_parent(after: PlanState, old: PlanState) -> ByParent
+    ensures { λ r. ⌜ r ≡ byParent after old ⌝ }
+{
+    if is_dormant(after) {
+        return ByParent::Settled(PlanState::Inactive);
+    }
+    if after.is_ended() {
+        return ByParent::Settled(cut_off(old));
+    }
+    ByParent::Open
+}
+
 // The new state of plan p, a child, where `new` has the new states of the plans before it; `chosen` is the rank of the child that its
-// parent would activate if it is any-order. Most plans of a tree stand under one that has not begun or has ended: these are quick.
+// parent would activate if it is any-order.
 pub fn next_child(
     table: &[u8],
     ranks: &[u8],
@@ -412,13 +432,10 @@ pub fn next_child(
 {
     let q = parent_at(table, p);
     let after = PlanState::from_byte(new[q]);
-    if is_dormant(after) {
-        return PlanState::Inactive;
+    match by_parent(after, PlanState::from_byte(old[p])) {
+        ByParent::Settled(state) => state,
+        ByParent::Open => next_live(table, ranks, names, sets, old, words, p, q, after, chosen),
     }
-    if after.is_ended() {
-        return cut_off(PlanState::from_byte(old[p]));
-    }
-    next_live(table, ranks, names, sets, old, words, p, q, after, chosen)
 }
 
 // The new state of plan p, whose parent q has the new state `after`.

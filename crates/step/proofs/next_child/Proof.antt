@@ -4,11 +4,7 @@ use mathlib.Core.Path.{sym, ap, _∙_}
 use native.Mathlib.Omega.{arith}
 use borrow.Author.Needs.{needs}
 use denote.Ref.{now}
-use Rattle.rules.specs.States.{stateAt}
-use Rattle.rules.specs.Table.{entry}
-use Rattle.rules.specs.Words.{word}
-use Rattle.rules.specs.Step.{cutOff, tooManyLost, childrenComplete, ordersIf}
-use Rattle.step.proofs.Moves.{state-is, dormant-move, ended-move, child-move, same-choice}
+use Rattle.step.proofs.Moves.{child-settled, child-move, same-choice}
 use Rattle.step.proofs.next_child.Statement.{statement}
 use Rattle.step.proofs.next_child.Tie as tie
 
@@ -20,42 +16,21 @@ above c =
 
 returns : tie.Need-returns
 returns c choice picked =
-    let args = c .before .before .before .before .before .before .before .before .before .before .before .before .args in
-    let t = now (args .table) in
-    let s = now (args .old) in
-    let w = now (args .words) in
-    let p = args .p in
-    let q = c .before .before .before .before .parent-at .result in
-    let after = c .before .before .from-byte .result in
-    child-move t s w choice (now (args .new)) p q (c .before .before .before .before .before .before .before .before .before .before .before .before .pre .1 .0) (c .before .before .before .before .parent-at .ensures) after _ (c .before .before .from-byte .ensures)
-    (dormant-move after (ordersIf t s w choice (stateAt s q) after q p) (entry t p) (word w p) (tooManyLost t s p)
-    (childrenComplete t s p) (stateAt s p) (sym (c .before .is-dormant .ensures) ∙ c .if1 .taken))
+    let args = c .before .before .before .before .before .before .before .before .before .before .before .before .before .before .before .before .args in
+    child-settled (now (args .table)) (now (args .old)) (now (args .words)) choice (now (args .new)) (args .p) _ (c .before .before .before .before .before .before .before .before .before .before .before .before .before .before .before .before .pre .1 .0)
+    (c .before .before .before .before .before .before .before .before .parent-at .ensures) _ _ _ (c .before .before .before .before .before .before .from-byte .ensures) (c .before .before .before .before .from-byte2 .ensures)
+    (sym (c .before .before .before .by-parent .ensures) ∙ c .before .state .given .1)
 
 returns-2 : tie.Need-returns-2
 returns-2 c choice picked =
-    let args = c .before .before .before .before .before .before .before .before .before .before .before .before .before .before .before .before .before .args in
-    let t = now (args .table) in
-    let s = now (args .old) in
-    let w = now (args .words) in
-    let p = args .p in
-    let q = c .before .before .before .before .before .before .before .before .before .parent-at .result in
-    let after = c .before .before .before .before .before .before .before .from-byte .result in
-    child-move t s w choice (now (args .new)) p q (c .before .before .before .before .before .before .before .before .before .before .before .before .before .before .before .before .before .pre .1 .0) (c .before .before .before .before .before .before .before .before .before .parent-at .ensures) after _ (c .before .before .before .before .before .before .before .from-byte .ensures)
-    (c .cut-off .ensures
-    ∙ ap cutOff (c .before .from-byte2 .ensures ∙ sym (state-is s p))
-    ∙ ended-move after (ordersIf t s w choice (stateAt s q) after q p) (entry t p) (word w p) (tooManyLost t s p)
-    (childrenComplete t s p) (stateAt s p) (sym (c .before .before .before .before .before .before .is-dormant .ensures) ∙ c .before .before .before .before .before .if1 .left) (sym (c .before .before .before .before .is-ended .ensures) ∙ c .before .before .before .if2 .taken))
-
-returns-3 : tie.Need-returns-3
-returns-3 c choice picked =
-    let args = c .before .before .before .before .before .before .before .before .before .before .before .before .before .before .before .args in
+    let args = c .before .before .before .before .before .before .before .before .before .before .before .before .before .before .before .before .args in
     let t = now (args .table) in
     let s = now (args .old) in
     let w = now (args .words) in
     let new = now (args .new) in
-    let h = c .before .before .before .before .before .before .before .before .before .before .before .before .before .before .before .pre .1 .0 in
-    let is-parent = c .before .before .before .before .before .before .before .parent-at .ensures in
-    child-move t s w choice new (args .p) _ h is-parent _ _ (c .before .before .before .before .before .from-byte .ensures)
+    let h = c .before .before .before .before .before .before .before .before .before .before .before .before .before .before .before .before .pre .1 .0 in
+    let is-parent = c .before .before .before .before .before .before .before .before .parent-at .ensures in
+    child-move t s w choice new (args .p) _ h is-parent _ _ (c .before .before .before .before .before .before .from-byte .ensures)
     (c .next-live .ensures choice (same-choice t s w choice new (args .p) _ h is-parent (args .chosen) picked))
 
 pub next-child-spec : {M : Type 1} → statement M
@@ -65,12 +40,11 @@ next-child-spec =
     (λ c κs. omega (arith, c .before .before .before .before .before .before .before .pre .0 .long, c .before .before .before .before .before .before .before .pre .1 .1))
     (λ c. omega (arith, above (c .before), c .before .before .before .before .before .before .before .before .before .pre .1 .2))
     (λ c κs. search needs)
+    (λ c. omega (arith, c .before .before .before .before .before .before .before .before .before .before .before .pre .0 .states-room, c .before .before .before .before .before .before .before .before .before .before .before .pre .1 .1))
     (λ c κs. search needs)
+    (λ c κs. search needs)
+    (λ c. search needs)
+    (λ c. search needs)
+    (λ c κs. (c .before .before .before .before .before .before .before .before .before .before .before .before .before .before .before .pre .0, (c .before .before .before .before .before .before .before .before .before .before .before .before .before .before .before .pre .1 .0, c .before .before .before .before .before .before .before .before .before .before .before .before .before .before .before .pre .1 .1, c .before .before .before .before .before .before .before .parent-at .ensures)))
     returns
-    (λ c κs. search needs)
-    (λ c. omega (arith, c .before .before .before .before .before .before .before .before .before .before .before .before .before .before .before .pre .0 .states-room, c .before .before .before .before .before .before .before .before .before .before .before .before .before .before .before .pre .1 .1))
-    (λ c κs. search needs)
-    (λ c κs. search needs)
-    returns-2
-    (λ c κs. (c .before .before .before .before .before .before .before .before .before .before .before .before .before .before .pre .0, (c .before .before .before .before .before .before .before .before .before .before .before .before .before .before .pre .1 .0, c .before .before .before .before .before .before .before .before .before .before .before .before .before .before .pre .1 .1, c .before .before .before .before .before .before .parent-at .ensures)))
-    returns-3)
+    returns-2)
