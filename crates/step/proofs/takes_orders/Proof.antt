@@ -1,5 +1,4 @@
 -- `takes_orders` meets its contract: a byte for each of the three states. Assumes nothing.
-use mathlib.Core.Path.{ap}
 use mathlib.Core.Bool.{or-false, or-assoc}
 use borrow.Author.Needs.{needs}
 use Rattle.step.proofs.takes_orders.Statement.{statement}
