@@ -33,8 +33,7 @@ fn buffer() -> [u8; 65537]
 }
 
 // Puts the line for an input at the start of `out`, and answers where it ends.
-fn report(input: &[u8], out: &mut [u8]) -> usize
-    requires { ⌜ 64 ≤ length (now out) ⌝ }
+fn report(input: &[u8], out: &mut [u8; 64]) -> usize
     ensures within { λ r. ⌜ Counts r (now (out .exit)) ⌝ }
     ensures printed { λ r. ⌜ Printed (now (input .entry)) (take r (now (out .exit))) ⌝ }
 {

@@ -10,9 +10,9 @@ use Rattle.aprcheck.proofs.report.Tie as tie
 
 returns : tie.Need-returns
 returns c =
-    let written = c .before .before .line-of .ensures in
-    let answered = c .before .before .before .before .answer in
-    let count = c .before .before .before .before .before .plan-count .ensures in (
+    let written = c .line-of .ensures in
+    let answered = c .before .before .answer in
+    let count = c .before .before .before .plan-count .ensures in (
       (omega arith, sym (length-take-le _ _ (omega arith))),
       record {
         verdict = answered .result;
@@ -22,6 +22,4 @@ returns c =
     )
 
 pub report-spec : {M : Type 1} → statement M
-report-spec =
-    tie.close
-    (tie.spec (λ c κs. search needs) (λ c κs. search needs) (λ c κs. search needs) (λ c. search needs) returns)
+report-spec = tie.close (tie.spec (λ c κs. search needs) (λ c κs. search needs) (λ c κs. search needs) returns)
