@@ -15,13 +15,11 @@ ghost use Rattle.table.specs.Lowest.{Lowest};
 ghost use Rattle.table.specs.Facts.{Shaped, breaksEntry, breaking, Known, Checked, outside};
 use children::collect_named;
 use children::rank_children;
-use rules::Condition;
 use rules::Outcome;
 use rules::PlanEntry;
 use rules::Refusal;
 use rules::Verdict;
 use rules::entry_at;
-use rules::is_set;
 use rules::parent_at;
 use rules::u16_at;
 
@@ -124,22 +122,11 @@ fn undefined_entry(e: PlanEntry) -> bool
     (4 < e.body) | (8 <= e.flags) | (64 <= e.present) | (64 <= e.manual) | (64 <= e.overridable)
 }
 
-// Whether a condition is manual or overridable though the plan does not have it.
-fn stray_at(e: PlanEntry, c: Condition) -> bool
-    ensures { λ r. ⌜ r ≡ strayAt e (bitOf c) ⌝ }
-{
-    let k = c.bit();
-    (is_set(e.manual as u32, k) | is_set(e.overridable as u32, k)) & !is_set(e.present as u32, k)
-}
-
-// Whether any condition is so.
+// Whether a condition is manual or overridable though the plan does not have it: all six at once, one bit each.
 fn stray(e: PlanEntry) -> bool
     ensures { λ r. ⌜ r ≡ some (strayAt e) (map bitOf conditions) ⌝ }
 {
-    let before = stray_at(e, Condition::Filter) | stray_at(e, Condition::Setup);
-    let during = stray_at(e, Condition::Suspend) | stray_at(e, Condition::Reactivate);
-    let after = stray_at(e, Condition::Abort) | stray_at(e, Condition::Complete);
-    before | during | after
+    ((e.manual | e.overridable) & !e.present) % 64 != 0
 }
 
 // Check 8 of plan p's entry, with its number of children.
