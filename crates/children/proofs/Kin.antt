@@ -1,7 +1,7 @@
 -- Laws of children: one plan more, and what it does to a word. Assumes nothing.
 use mathlib.Core.Path.{_≡_, refl, sym, ap, _∙_}
 use mathlib.Core.List.{List, [], _∷_, _++_, map, map-append, append-nil}
-use mathlib.Core.Bool.{Bool, true, false, cond}
+use mathlib.Core.Bool.{Bool, true, false, cond, false≢true}
 use Prim.Native.Nat.{ℕ, zero, suc, _+_, _*_, _^_, _≤_, _<_}
 use native.Mathlib.Decide.{ℕ-discrete}
 use native.Mathlib.Numerals.{add-one}
@@ -9,7 +9,7 @@ use native.Mathlib.Omega.{arith}
 use lib.ListN.{length, getD, set, length-append, length-map, length-set}
 use lib.Seq.{getD-set-same, getD-set-other}
 use lib.Dec.{eqb}
-use borrow.Author.Tests.{eq-eqb, ne-eqb}
+use borrow.Author.Tests.{eq-eqb, ne-eqb, eqb-true}
 use Rattle.rules.specs.Bytes.{byteAt}
 use Rattle.rules.specs.Table.{parent, isChild, childrenBefore, rank}
 use Rattle.children.specs.Sets.{bits, setBefore, Rooted, Beyond, Ranked, Collected}
@@ -49,6 +49,26 @@ module _ (t : List ℕ) where
   children-none n rooted q (suc (suc k)) l h =
       children-other q (suc k) (omega arith) (λ e. omega (arith, rooted .down (suc k) (omega arith) (omega arith)))
       ∙ children-none n rooted q (suc k) (omega arith) (omega arith)
+
+  -- who is a child of q has q for a parent
+  pub child-parent : (q p : ℕ) → isChild t q p ≡ true → parent t p ≡ q
+  child-parent q zero e = absurd (false≢true e)
+  child-parent q (suc p) e = eqb-true (parent t (suc p)) q e
+
+  -- ranks below 64 make at most 64 children
+  pub few-children : (n : ℕ) → ((p : ℕ) → p < n → rank t p < 64) → (q k : ℕ) → k ≤ n → length (childrenBefore t q k) ≤ 64
+  unfolding childrenBefore rank
+  few-children n narrow q zero l = omega arith
+  few-children n narrow q (suc k) l = go (isChild t q k) (child-parent q k) (few-children n narrow q k (omega arith))
+    where
+      go :
+          (b : Bool) → (b ≡ true → parent t k ≡ q) → length (childrenBefore t q k) ≤ 64
+          → length (childrenBefore t q k ++ cond b (k ∷ []) []) ≤ 64
+      go true own ih =
+          let e = own refl in
+          let r : length (childrenBefore t q k) < 64 = rw e at (narrow k (omega arith)) in
+          simp length-append (omega arith)
+      go false own ih = simp length-append (omega arith)
 
 -- a store below n
 pub beyond-set : (n : ℕ) (old new : List ℕ) (i v : ℕ) → i < n → Beyond n old new → Beyond n old (set new i v)
@@ -173,6 +193,26 @@ module _ (t : List ℕ) (f : ℕ → Bool) (p : ℕ) (h : 0 < p) where
   set-fits narrow =
       bits-fit 64 (map f (childrenBefore t (parent t p) (suc p)))
       (rw (length-map, children-own t (parent t p) p h refl) (simp length-append (omega arith)))
+
+-- tests that agree on the children among the first k plans make the same set
+module _ (t : List ℕ) (q : ℕ) (f g : ℕ → Bool) where
+  abbrev AgreeBefore : ℕ → Type 0
+  AgreeBefore k = (c : ℕ) → c < k → isChild t q c ≡ true → f c ≡ g c
+
+  same-tests : (k : ℕ) → AgreeBefore k → map f (childrenBefore t q k) ≡ map g (childrenBefore t q k)
+  unfolding childrenBefore
+  same-tests zero h = refl
+  same-tests (suc k) h = go (isChild t q k) (h k (omega arith)) (same-tests k (λ c l. h c (omega arith)))
+    where
+      go :
+          (b : Bool) → (b ≡ true → f k ≡ g k) → map f (childrenBefore t q k) ≡ map g (childrenBefore t q k)
+          → map f (childrenBefore t q k ++ cond b (k ∷ []) []) ≡ map g (childrenBefore t q k ++ cond b (k ∷ []) [])
+      go true e ih = simp map-append (rw (ih, e refl) refl)
+      go false e ih = simp map-append (rw ih refl)
+
+  pub same-set : (k : ℕ) → AgreeBefore k → setBefore t k q f ≡ setBefore t k q g
+  unfolding setBefore
+  same-set k h = ap bits (same-tests k h)
 
 -- no bit yet: a plan has no child before it
 set-none : (t : List ℕ) (n : ℕ) → Rooted t n → (f : ℕ → Bool) (q k : ℕ) → k ≤ n → k ≤ suc q → setBefore t k q f ≡ 0

@@ -1,5 +1,5 @@
--- One answer: any two exits that the contract of `rank_children`, `collect_named` or `survey` permits for one entry leave the same
--- lists. Each is shown of lists, and then of the contract itself as Rattle reads it: `Post κs a z e`, of the lifetimes, the
+-- One answer: any two exits that the contract of `rank_children`, `collect_named`, `survey` or `resurvey` permits for one entry leave
+-- the same lists. Each is shown of lists, and then of the contract itself as Rattle reads it: `Post κs a z e`, of the lifetimes, the
 -- arguments, the answer and the parameters at exit, arguments and parameters in the order of the declaration. Assumes nothing.
 use Prim.Native.Nat.{ℕ, _+_, _*_, _/_, _%_, _<_}
 use native.Mathlib.Omega.{arith}
@@ -16,6 +16,7 @@ use Rattle.children.specs.Sets.{Beyond, Ranked, Collected, Surveyed}
 use Rattle.children.proofs.rank_children.Reads as rank-children
 use Rattle.children.proofs.collect_named.Reads as collect-named
 use Rattle.children.proofs.survey.Reads as survey
+use Rattle.children.proofs.resurvey.Reads as resurvey
 
 -- two lists of numbers that hold the same below n
 abbrev pub Alike : ℕ → List ℕ → List ℕ → Type 0
@@ -82,3 +83,9 @@ pub survey-once :
     (κs : Lfts 4) (a : _) (z z′ : _) (e e′ : _) → survey.Post κs a z e → survey.Post κs a z′ e′
     → now (e .1 .1 .1 .1 .0) ≡ now (e′ .1 .1 .1 .1 .0)
 survey-once κs a z z′ e e′ h h′ = surveyed-once _ _ _ _ _ _ (h .0) (h .1) (h′ .0) (h′ .1)
+
+-- `resurvey`: the words that it leaves are one
+pub resurvey-once :
+    (κs : Lfts 5) (a : _) (z z′ : _) (e e′ : _) → resurvey.Post κs a z e → resurvey.Post κs a z′ e′
+    → now (e .1 .1 .1 .1 .1 .0) ≡ now (e′ .1 .1 .1 .1 .1 .0)
+resurvey-once κs a z z′ e e′ h h′ = surveyed-once _ _ _ _ _ _ (h .0) (h .1) (h′ .0) (h′ .1)

@@ -73,6 +73,30 @@ pub fn survey(table: &[u8], n: usize, ranks: &[u8], states: &[u8], sets: &mut [u
     }
 }
 
+// Turns the words of the old states into those of the new ones: only the bits of plans that changed move, so a caller that keeps the
+// words from step to step need not survey again.
+pub fn resurvey(table: &[u8], n: usize, ranks: &[u8], old: &[u8], new: &[u8], sets: &mut [u64])
+    requires rooted { ⌜ Rooted (now table) n ⌝ }
+    requires narrow { ⌜ Narrow (now table) n (now ranks) ⌝ }
+    requires codes { ⌜ ((p : ℕ) → p < n → (byteAt (now old) p < 9) × (byteAt (now new) p < 9)) ⌝ }
+    requires room { ⌜ (n ≤ length (now ranks)) × (n ≤ length (now old)) × (n ≤ length (now new)) × (n * 9 ≤ length (now sets)) ⌝ }
+    requires surveyed { ⌜ Surveyed (now table) (now old) n (now sets) ⌝ }
+    ensures found { λ _. ⌜ Surveyed (now (table .entry)) (now (new .entry)) n (now (sets .exit)) ⌝ }
+    ensures rest { λ _. ⌜ Beyond (n * 9) (now (sets .entry)) (now (sets .exit)) ⌝ }
+{
+    for p in 1..n {
+        if old[p] == new[p] {
+            continue;
+        }
+        let q = parent_at(table, p);
+        let bit = bit_if(true, ranks[p]);
+        let from = q * 9 + wide(old[p]);
+        let to = q * 9 + wide(new[p]);
+        sets[from] -= bit;
+        sets[to] += bit;
+    }
+}
+
 // The first n words are 0.
 fn clear(words: &mut [u64], n: usize)
     requires { ⌜ n ≤ length (now words) ⌝ }

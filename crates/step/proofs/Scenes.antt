@@ -2,20 +2,21 @@
 use Prim.Native.Nat.{ℕ, zero, suc, _+_, _*_, _≤_, _<_}
 use native.Mathlib.Omega.{arith}
 use mathlib.Core.Path.{_≡_, refl, sym, ap, _∙_}
-use mathlib.Core.Bool.{Bool, true, false, cond, or-false, false≢true}
-use mathlib.Core.List.{List, [], _∷_, _++_, map, map-append}
+use mathlib.Core.Bool.{true, false, or-false}
+use mathlib.Core.List.{List}
 use lib.Dec.{eqb}
-use lib.ListN.{length, length-append, take}
-use borrow.Author.Tests.{eqb-true, ltb-true, not-false}
+use lib.ListN.{length, take}
+use borrow.Author.Tests.{ltb-true, not-false}
 use Rattle.rules.specs.Bytes.{byteAt}
 use Rattle.rules.specs.States.{code, isCode, stateOf, stateAt, is}
-use Rattle.rules.specs.Table.{planCount, parent, isChild, childrenBefore, children, rank}
+use Rattle.rules.specs.Table.{planCount, parent, children}
 use Rattle.rules.specs.HandedIn.{badState, breaksUnder}
 use Rattle.rules.specs.Answers.{tableCheck}
 use Rattle.rules.specs.declared.PlanState.{PlanState}
 use Rattle.rules.specs.declared.Outcome.the-variants.{Done}
 use Rattle.rules.proofs.Tree.{or-left, Passes, passes, Tree, tree}
-use Rattle.children.specs.Sets.{bits, setBefore, setOf, Rooted, Narrow, Surveyed}
+use Rattle.children.specs.Sets.{setBefore, setOf, Rooted, Narrow, Surveyed}
+use Rattle.children.proofs.Kin.{same-set, few-children}
 use Rattle.step.specs.Brood.{Brood}
 use Rattle.step.specs.Scene.{Scene}
 use Rattle.step.specs.Calls.{Ready}
@@ -37,42 +38,6 @@ code-of (suc (suc (suc (suc (suc (suc (suc (suc (suc b))))))))) l = absurd (omeg
 state-test : (s : List ℕ) (c : ℕ) → byteAt s c < 9 → (x : PlanState) → eqb (byteAt s c) (code x) ≡ is x (stateAt s c)
 unfolding stateAt
 state-test s c l x = ap (λ (b : ℕ). eqb b (code x)) (sym (code-of (byteAt s c) l)) ∙ sym (or-false _)
-
--- tests that agree on the first k plans make the same set
-module _ (t : List ℕ) (q : ℕ) (f g : ℕ → Bool) where
-  same-tests : (k : ℕ) → ((c : ℕ) → c < k → f c ≡ g c) → map f (childrenBefore t q k) ≡ map g (childrenBefore t q k)
-  unfolding childrenBefore
-  same-tests zero h = refl
-  same-tests (suc k) h = go (isChild t q k) (same-tests k (λ c l. h c (omega arith)))
-    where
-      go :
-          (b : Bool) → map f (childrenBefore t q k) ≡ map g (childrenBefore t q k)
-          → map f (childrenBefore t q k ++ cond b (k ∷ []) []) ≡ map g (childrenBefore t q k ++ cond b (k ∷ []) [])
-      go true ih = simp map-append (rw (ih, h k (omega arith)) refl)
-      go false ih = simp map-append (rw ih refl)
-
-  same-set : (k : ℕ) → ((c : ℕ) → c < k → f c ≡ g c) → setBefore t k q f ≡ setBefore t k q g
-  unfolding setBefore
-  same-set k h = ap bits (same-tests k h)
-
--- ranks below 64 make at most 64 children
-few-children : (t : List ℕ) (n : ℕ) → ((p : ℕ) → p < n → rank t p < 64) → (q k : ℕ) → k ≤ n → length (childrenBefore t q k) ≤ 64
-unfolding childrenBefore rank
-few-children t n narrow q zero l = omega arith
-few-children t n narrow q (suc k) l = go (isChild t q k) (is-parent k) (few-children t n narrow q k (omega arith))
-  where
-    is-parent : (j : ℕ) → isChild t q j ≡ true → parent t j ≡ q
-    is-parent zero e = absurd (false≢true e)
-    is-parent (suc j) e = eqb-true (parent t (suc j)) q e
-
-    go :
-        (b : Bool) → (b ≡ true → parent t k ≡ q) → length (childrenBefore t q k) ≤ 64
-        → length (childrenBefore t q k ++ cond b (k ∷ []) []) ≤ 64
-    go true own ih =
-        let e = own refl in
-        let r : length (childrenBefore t q k) < 64 = rw e at (narrow k (omega arith)) in
-        simp length-append (omega arith)
-    go false own ih = simp length-append (omega arith)
 
 pub rooted : (t : List ℕ) → tableCheck t ≡ Done → (n : ℕ) → n ≡ planCount t → Rooted t n
 rooted t done n whole =
@@ -116,7 +81,7 @@ module _ (t s w ranks names : List ℕ) (ready : Ready t s w ranks names) (n : �
           word =
               λ x.
               surveyed .word q (code x) (omega arith) (code-lt x)
-              ∙ same-set t q _ _ n (λ c i. state-test s c (codes c i) x)
+              ∙ same-set t q _ _ n (λ c i child. state-test s c (codes c i) x)
               ∙ ap (λ (k : ℕ). setBefore t k q (λ c. is x (stateAt s c))) whole;
         }
 
