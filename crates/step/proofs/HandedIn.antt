@@ -5,7 +5,7 @@ use native.Mathlib.Omega.{arith}
 use native.Mathlib.Numerals.{add-one}
 use native.Mathlib.Decide.{ℕ-discrete, le-ind}
 use mathlib.Core.Path.{_≡_, refl, sym, ap, _∙_}
-use mathlib.Core.Bool.{Bool, true, false, cond, not, _&&_, _||_, and-false, or-false, or-assoc}
+use mathlib.Core.Bool.{Bool, true, false, cond, not, _&&_, _||_, and-false, or-false, or-true, or-assoc}
 use mathlib.Core.List.{List, [], _∷_, _++_}
 use lib.Dec.{eqb, ltb}
 use lib.ListN.{length, set, replicate, length-set, length-replicate, getD-replicate}
@@ -22,7 +22,17 @@ use Rattle.rules.specs.declared.Body.{Body}
 use Rattle.rules.specs.declared.Body.the-variants.{Leaf, Sequential, Parallel, AnyOrder, Unordered}
 use Rattle.rules.specs.declared.PlanEntry.{PlanEntry}
 use Rattle.rules.specs.declared.PlanState.{PlanState}
-use Rattle.rules.specs.declared.PlanState.the-variants.{Inactive}
+use Rattle.rules.specs.declared.PlanState.the-variants.{
+  Inactive,
+  Considered,
+  Possible,
+  Ready,
+  Activated,
+  Suspended,
+  Completed,
+  Aborted,
+  Rejected,
+}
 use Rattle.children.proofs.Kin.{children-own, children-other}
 use Rattle.step.specs.HandedIn.{breaksBy}
 use Rattle.step.proofs.Moves.{state-is}
@@ -107,6 +117,19 @@ module _
           mark = λ k lk. rw (add-one p) (mark-more k lk (ℕ-discrete k q));
         }
 
+-- where plan p passes no test, the marks stand
+marks-kept :
+    (t : List ℕ) (n : ℕ) (f : ℕ → ℕ → Bool) (p : ℕ) (marks : List ℕ) → ((q : ℕ) → f q p ≡ false) → Marks t n f p marks
+    → Marks t n f (p + 1) marks
+marks-kept t n f p marks none before =
+    record {
+      room = before .room;
+      mark =
+          λ q l.
+          rw (add-one p, some-more t (f q) q p, none q, and-false (isChild t q p), or-false (some (f q) (childrenBefore t q p)))
+          (before .mark q l);
+    }
+
 -- what is marked: a child in execution, and one that its parent is not done with
 abbrev pub executing : List ℕ → ℕ → ℕ → Bool
 executing s q c = inExecution (stateAt s c)
@@ -137,6 +160,25 @@ module _ (t s : List ℕ) where
   unfolding badState
   bad-under zero h e = absurd (omega arith)
   bad-under (suc p) h e = rw (lt-ltb (byteAt s (suc p)) 9 (omega arith))
+
+-- an Inactive child suits every parent and breaks no body's rule
+inactive-suits : (parent : PlanState) → suits parent Inactive ≡ true
+inactive-suits Inactive = refl
+inactive-suits Considered = refl
+inactive-suits Possible = refl
+inactive-suits Ready = refl
+inactive-suits Activated = refl
+inactive-suits Suspended = refl
+inactive-suits Completed = refl
+inactive-suits Aborted = refl
+inactive-suits Rejected = refl
+
+inactive-keeps : (body : Body) (running undone : Bool) → breaksBy body Inactive running undone ≡ false
+inactive-keeps Leaf running undone = refl
+inactive-keeps Sequential running undone = refl
+inactive-keeps Parallel running undone = refl
+inactive-keeps AnyOrder running undone = refl
+inactive-keeps Unordered running undone = refl
 
 -- what a turn at plan p, the child of q, finds and does, in the code's words: `fits` and `breaks` are its tests, e is q's entry
 pub record MarkTurn
@@ -214,4 +256,19 @@ module _
                     mark-next t n (unfinished t s) p undone (before .undoes) (before .started) q undo inside is-parent
                     (eu ∙ rw (ed, eg, ee, ec, ← state-is s p));
               };
+        }
+
+    -- the turn at an Inactive plan: it breaks no rule, is not in execution and is not done
+    pub idle-turn : byteAt s p ≡ 0 → Marking t s n (p + 1) running (set undone q 1)
+    idle-turn zero-byte =
+        let idle : stateAt s p ≡ Inactive = state-is s p ∙ ap stateOf zero-byte in
+        let good : badState t s p ≡ false = bad-by ∙ rw (idle, inactive-suits (stateAt s q), inactive-keeps) refl in
+        record {
+          started = omega arith;
+          within = omega arith;
+          passed = below-more _ _ (before .passed) good;
+          runs = marks-kept t n (executing s) p running (λ k. rw idle refl) (before .runs);
+          undoes =
+              mark-next t n (unfinished t s) p undone (before .undoes) (before .started) q 1 inside is-parent
+              (rw idle (sym (or-true (eqb (byteAt undone q) 1))));
         }

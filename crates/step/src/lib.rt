@@ -559,7 +559,7 @@ fn marked(mark: u8, test: bool) -> u8
 }
 
 // Check 11: the lowest plan that breaks a rule together with lower plans, or n. One pass: what counts of the lower children is marked
-// at their parent.
+// at their parent. Most plans are Inactive, so these have a short way: as a child such a plan breaks no rule, whatever its parent.
 fn lowest_bad_state(table: &[u8], n: usize, states: &[u8]) -> usize
     requires { ⌜ Rooted (now table) n × (n ≡ planCount (now table)) × (0 < n) × (n ≤ length (now states)) ⌝ }
     ensures { λ r. ⌜ Lowest (badState (now (table .entry)) (now (states .entry))) n r ⌝ }
@@ -575,6 +575,11 @@ fn lowest_bad_state(table: &[u8], n: usize, states: &[u8]) -> usize
             return p;
         }
         let q = parent_at(table, p);
+        if states[p] == PlanState::INACTIVE {
+            undone[q] = 1;
+            p += 1;
+            continue;
+        }
         let e = entry_at(table, q);
         let child = PlanState::from_byte(states[p]);
         let fits = child_suits(PlanState::from_byte(states[q]), child);

@@ -1,4 +1,5 @@
--- `lowest_bad_state` meets its contract: a turn at plan p passes it and adds to its parent's marks. Assumes nothing.
+-- `lowest_bad_state` meets its contract: a turn at plan p passes it and adds to its parent's marks, by a short way where
+-- p is Inactive. Assumes nothing.
 use mathlib.Core.Path.{_≡_, _∙_}
 use Prim.Native.Nat.{_-_, _<_}
 use native.Mathlib.Omega.{arith}
@@ -6,7 +7,7 @@ use borrow.Author.Count.{below-none}
 use borrow.Author.Needs.{needs}
 use denote.Ref.{now}
 use Rattle.table.proofs.Lowest.{stops-here, ends-here}
-use Rattle.step.proofs.HandedIn.{Marking, MarkTurn, marks-none, bad-code, good-root, mark-turn}
+use Rattle.step.proofs.HandedIn.{Marking, MarkTurn, marks-none, bad-code, good-root, mark-turn, idle-turn}
 use Rattle.step.proofs.lowest_bad_state.Statement.{statement}
 use Rattle.step.proofs.lowest_bad_state.Tie as tie
 
@@ -35,38 +36,45 @@ returns-2 c =
     stops-here _ _ _ (c .before .before .before .loop .inv .passed) (c .before .before .loop-test .taken)
     (bad-code _ _ _ (c .if2 .taken))
 
+-- where the parent of p is known, the places before
+abbrev loop-of : tie.After-parent-at Inv-loop μ-loop → tie.At-loop Inv-loop μ-loop
+loop-of c = c .before .before .before .before
+
+abbrev start-of : tie.After-parent-at Inv-loop μ-loop → tie.Start Inv-loop μ-loop
+start-of c = loop-of c .before .before .before .before .before
+
 -- the parent's number is below p's, so below n and in the arrays
-inside :
-    (c : tie.After-parent-at Inv-loop μ-loop)
-    → c .parent-at .result < c .before .before .before .before .before .before .before .before .before .args .n
-inside c =
-    let start = c .before .before .before .before .before .before .before .before .before in
-    let p = c .before .before .before .before .loop .p in
-    omega (arith, start .pre .0 .down p (omega arith) (omega arith))
+inside : (c : tie.After-parent-at Inv-loop μ-loop) → c .parent-at .result < start-of c .args .n
+inside c = omega (arith, start-of c .pre .0 .down (loop-of c .loop .p) (omega arith) (omega arith))
 
 small : (c : tie.After-parent-at Inv-loop μ-loop) → c .parent-at .result < 256
 small c = omega (arith, inside c)
 
--- where the tests of p have been made, the places before
+-- the turn at an Inactive p
+idle-again : tie.Need-loop-again Inv-loop μ-loop
+idle-again c =
+    let up = c .before .before in
+    idle-turn _ _ _ _ (start-of up .pre .1) _ _ (loop-of up .loop .inv) (up .before .before .before .loop-test .taken)
+    (up .before .if2 .left)
+    _
+    (up .parent-at .ensures)
+    (inside up)
+    (c .if3 .taken)
+
+-- where the tests of p have been made, the place where its parent is known
 abbrev up-of : tie.After-breaks-by Inv-loop μ-loop → tie.After-parent-at Inv-loop μ-loop
-up-of c = c .before .before .before .before .before .before .before .before
+up-of c = c .before .before .before .before .before .before .before .before .before .before
 
-abbrev loop-of : tie.After-breaks-by Inv-loop μ-loop → tie.At-loop Inv-loop μ-loop
-loop-of c = up-of c .before .before .before .before
-
-abbrev start-of : tie.After-breaks-by Inv-loop μ-loop → tie.Start Inv-loop μ-loop
-start-of c = loop-of c .before .before .before .before .before
-
--- the turn at p
+-- the turn at another p
 turn-at :
     (c : tie.After-breaks-by Inv-loop μ-loop)
     → MarkTurn
-    (now (start-of c .args .table))
-    (now (start-of c .args .states))
-    (start-of c .args .n)
-    (loop-of c .loop .p)
-    (loop-of c .loop .running)
-    (loop-of c .loop .undone)
+    (now (start-of (up-of c) .args .table))
+    (now (start-of (up-of c) .args .states))
+    (start-of (up-of c) .args .n)
+    (loop-of (up-of c) .loop .p)
+    (loop-of (up-of c) .loop .running)
+    (loop-of (up-of c) .loop .undone)
     (up-of c .parent-at .result)
     (c .before .before .before .before .before .before .before .entry-at .result)
     (c .before .before .before .before .before .from-byte .result)
@@ -74,7 +82,7 @@ turn-at :
     (c .breaks-by .result)
 turn-at c =
     let up = up-of c in
-    mark-turn _ _ _ _ (start-of c .pre .1) _ _ (loop-of c .loop .inv) (up .before .before .before .loop-test .taken)
+    mark-turn _ _ _ _ (start-of up .pre .1) _ _ (loop-of up .loop .inv) (up .before .before .before .loop-test .taken)
     (up .before .if2 .left)
     _
     (up .parent-at .ensures)
@@ -95,14 +103,14 @@ turn-at c =
 returns-3 : tie.Need-returns-3 Inv-loop μ-loop
 returns-3 c =
     let at = c .before in
-    stops-here _ _ _ (loop-of at .loop .inv .passed) (up-of at .before .before .before .loop-test .taken)
-    (turn-at at .tested ∙ c .if3 .taken)
+    stops-here _ _ _ (loop-of (up-of at) .loop .inv .passed) (up-of at .before .before .before .loop-test .taken)
+    (turn-at at .tested ∙ c .if4 .taken)
 
-loop-again : tie.Need-loop-again Inv-loop μ-loop
+loop-again : tie.Need-loop-again-2 Inv-loop μ-loop
 loop-again c =
     let passed = c .before .before .before .before .before in
     let turn = turn-at (passed .before) in
-    turn .next (turn .tested ∙ passed .if3 .left) _ _ _ _ _ (c .before .before .retries-aborted .ensures)
+    turn .next (turn .tested ∙ passed .if4 .left) _ _ _ _ _ (c .before .before .retries-aborted .ensures)
     (c .before .before .before .before .is-executing .ensures)
     (c .before .is-done .ensures)
     (c .before .before .before .marked .ensures)
@@ -123,15 +131,20 @@ lowest-bad-state-spec =
     (λ c. omega arith)
     returns-2
     (λ c κs. omega arith)
-    (λ c κs. omega (arith, inside c))
+    (λ c. omega arith)
+    (λ c. small (c .before .before))
+    (λ c. omega (arith, start-of (c .before .before) .pre .0 .small))
+    (λ c. omega arith)
+    idle-again
+    (λ c κs. omega (arith, inside (c .before .before)))
     (λ c. omega arith)
     (λ c κs. search needs)
-    (λ c. omega (arith, inside (c .before .before .before .before)))
+    (λ c. omega (arith, inside (c .before .before .before .before .before .before)))
     (λ c κs. search needs)
     (λ c κs. search needs)
     (λ c κs. search needs)
-    (λ c. small (c .before .before .before .before .before .before .before))
-    (λ c. small (c .before .before .before .before .before .before .before))
+    (λ c. small (c .before .before .before .before .before .before .before .before .before))
+    (λ c. small (c .before .before .before .before .before .before .before .before .before))
     (λ c κs. search needs)
     returns-3
     (λ c. small (up-of (c .before)))
@@ -143,7 +156,7 @@ lowest-bad-state-spec =
     (λ c κs. search needs)
     (λ c κs. search needs)
     (λ c. small (up-of (c .before .before .before .before .before .before)))
-    (λ c. omega (arith, start-of (c .before .before .before .before .before .before) .pre .0 .small))
+    (λ c. omega (arith, start-of (up-of (c .before .before .before .before .before .before)) .pre .0 .small))
     (λ c. omega arith)
     loop-again
     returns-4)
