@@ -56,16 +56,16 @@ fn bit_if(set: bool, rank: u8) -> u64
     if set { 1u64 << rank } else { 0 }
 }
 
-// For each plan and each of the nine states the word of the plan's children in that state, nine words a plan.
+// For each plan and each of the nine states the word of the plan's children in that state, nine words a plan, where all are 0 before.
 pub fn survey(table: &[u8], n: usize, ranks: &[u8], states: &[u8], sets: &mut [u64])
     requires rooted { ⌜ Rooted (now table) n ⌝ }
     requires narrow { ⌜ Narrow (now table) n (now ranks) ⌝ }
     requires codes { ⌜ ((p : ℕ) → p < n → byteAt (now states) p < 9) ⌝ }
     requires room { ⌜ (n ≤ length (now ranks)) × (n ≤ length (now states)) × (n * 9 ≤ length (now sets)) ⌝ }
+    requires empty { ⌜ ((i : ℕ) → i < n * 9 → getD (now sets) i 0 ≡ 0) ⌝ }
     ensures found { λ _. ⌜ Surveyed (now (table .entry)) (now (states .entry)) n (now (sets .exit)) ⌝ }
     ensures rest { λ _. ⌜ Beyond (n * 9) (now (sets .entry)) (now (sets .exit)) ⌝ }
 {
-    clear(sets, n * 9);
     for p in 1..n {
         let q = parent_at(table, p);
         let at = q * 9 + wide(states[p]);
@@ -94,17 +94,6 @@ pub fn resurvey(table: &[u8], n: usize, ranks: &[u8], old: &[u8], new: &[u8], se
         let to = q * 9 + wide(new[p]);
         sets[from] -= bit;
         sets[to] += bit;
-    }
-}
-
-// The first n words are 0.
-fn clear(words: &mut [u64], n: usize)
-    requires { ⌜ n ≤ length (now words) ⌝ }
-    ensures zero { λ _. ⌜ ((i : ℕ) → i < n → getD (now (words .exit)) i 0 ≡ 0) ⌝ }
-    ensures rest { λ _. ⌜ Beyond n (now (words .entry)) (now (words .exit)) ⌝ }
-{
-    for i in 0..n {
-        words[i] = 0;
     }
 }
 

@@ -1,32 +1,58 @@
--- The children that the states shown let their parents have activated, found in one pass over the plans from the last down. Assumes
--- nothing.
-use Prim.Native.Nat.{ℕ, zero, suc, _+_, _-_, _≤_, _<_}
+-- The children that the states shown let their parents have activated, found in one pass up through the plans. Assumes nothing.
+use Prim.Native.Nat.{ℕ, suc, _+_, _≤_, _<_}
 use native.Mathlib.Decide.{ℕ-discrete, decLt}
+use native.Mathlib.Numerals.{add-one}
 use native.Mathlib.Omega.{arith}
 use mathlib.Core.Path.{_≡_, refl, sym, ap, _∙_}
 use mathlib.Core.Bool.{Bool, true, false, cond, not, _&&_, _||_, or-false, false≢true}
-use mathlib.Core.List.{List, [], _∷_, _++_, append-nil, append-assoc}
+use mathlib.Core.Logic.{_⊎_, inl, inr}
+use mathlib.Core.List.{List, [], _∷_, _++_}
 use lib.Dec.{eqb}
-use lib.ListN.{getD, length, set, List·getD-eq-default}
+use lib.ListN.{length, set, length-set, List·getD-eq-default}
 use lib.Seq.{getD-set-same, getD-set-other}
 use borrow.Author.Tests.{eq-eqb, ne-eqb}
 use Rattle.rules.specs.Lists.{some, first, noPlan}
 use Rattle.rules.specs.Bytes.{byteAt}
 use Rattle.rules.specs.States.{code, byCode, stateOf, stateAt, is}
-use Rattle.rules.specs.Table.{planCount, parent, isChild, childrenBefore, children, rank}
+use Rattle.rules.specs.Table.{planCount, parent, childrenBefore, children}
 use Rattle.rules.specs.Step.{newState}
-use Rattle.rules.specs.Demands.{SubPlan}
 use Rattle.rules.specs.declared.PlanState.{PlanState}
 use Rattle.rules.specs.declared.PlanState.the-variants.{Ready, Activated, Rejected}
-use Rattle.children.specs.Sets.{Rooted, Narrow}
+use Rattle.children.specs.Sets.{Rooted}
+use Rattle.children.proofs.Kin.{children-own, children-other, children-none}
 use Rattle.step.proofs.Broods.{code-lt}
+use Rattle.step.proofs.HandedIn.{some-snoc}
 use Rattle.step.proofs.Scenes.{code-of}
 use Rattle.demands.specs.Witness.{last, firstMarked, activatedChild}
-use Rattle.demands.proofs.Children.{sub-plan, member-child, at-rank}
-use Rattle.demands.proofs.Choice.{activated-found}
-use Rattle.record.specs.Steps.{noRank, preferred, Chosen}
+use Rattle.record.specs.Steps.{Chosen}
 
--- Of the candidates, the first that is marked, else the last: found from the end of the list on.
+-- one number more at the end of a list: the first and the last that pass a test
+first-snoc :
+    (f : ℕ → Bool) (ks : List ℕ) (k : ℕ) → first f (ks ++ k ∷ []) ≡ cond (some f ks) (first f ks) (cond (f k) k noPlan)
+first-snoc f [] k = refl
+first-snoc f (x ∷ ks) k = rw (first-snoc f ks k) (go (f x))
+  where
+    go :
+        (b : Bool)
+        → cond b x (cond (some f ks) (first f ks) (cond (f k) k noPlan))
+        ≡ cond (b || some f ks) (cond b x (first f ks)) (cond (f k) k noPlan)
+    go true = refl
+    go false = refl
+
+last-snoc : (f : ℕ → Bool) (ks : List ℕ) (k : ℕ) → last f (ks ++ k ∷ []) ≡ cond (f k) k (last f ks)
+last-snoc f [] k = refl
+last-snoc f (x ∷ ks) k = rw (some-snoc f ks k true, last-snoc f ks k) (go (f k) (some f ks))
+  where
+    go :
+        (b c : Bool)
+        → cond (c || b) (cond b k (last f ks)) (cond (f x) x noPlan)
+        ≡ cond b k (cond c (last f ks) (cond (f x) x noPlan))
+    go true true = refl
+    go true false = refl
+    go false true = refl
+    go false false = refl
+
+-- Of the candidates, the first that is marked, else the last: kept while the list grows at its end, with 0 where there is none.
 module _ (candidate marked : ℕ → Bool) where
   abbrev both : ℕ → Bool
   both c = candidate c && marked c
@@ -34,81 +60,100 @@ module _ (candidate marked : ℕ → Bool) where
   abbrev target : List ℕ → ℕ
   target ks = firstMarked candidate marked ks
 
-  none-both : (ks : List ℕ) → some candidate ks ≡ false → some both ks ≡ false
-  none-both [] e = refl
-  none-both (k ∷ ks) e = go (candidate k) (marked k) e (none-both ks)
-    where
-      go :
-          (a m : Bool) → (a || some candidate ks) ≡ false → (some candidate ks ≡ false → some both ks ≡ false)
-          → (a && m || some both ks) ≡ false
-      go true m e ih = absurd (false≢true (sym e))
-      go false m e ih = ih e
+  -- no candidate so far
+  pub record Nothing (ks : List ℕ) (v : ℕ) : Type 0 where
+    pub zero : v ≡ 0
+    pub unmarked : some both ks ≡ false
+    pub blank : target ks ≡ noPlan
 
-  none-last : (ks : List ℕ) → some candidate ks ≡ false → last candidate ks ≡ noPlan
-  none-last [] e = refl
-  none-last (k ∷ ks) e = go (candidate k) e
-    where
-      go :
-          (a : Bool) → (a || some candidate ks) ≡ false
-          → cond (some candidate ks) (last candidate ks) (cond a k noPlan) ≡ noPlan
-      go true e = absurd (false≢true (sym e))
-      go false e = rw e refl
+  -- a candidate is kept, and its own mark says whether there is a marked one
+  pub record Something (ks : List ℕ) (v : ℕ) : Type 0 where
+    pub later : 0 < v
+    pub best : v ≡ target ks
+    pub telling : marked v ≡ some both ks
 
-  pub target-none : (ks : List ℕ) → some candidate ks ≡ false → target ks ≡ noPlan
-  target-none ks e = rw (none-both ks e) (none-last ks e)
+  abbrev pub Kept : List ℕ → ℕ → Type 0
+  Kept ks v = Nothing ks v ⊎ Something ks v
 
-  -- one more number before the others is the target if it is a candidate and is marked, or if no other is a candidate
-  target-more :
-      (k : ℕ) (ks : List ℕ) → target (k ∷ ks) ≡ cond (candidate k && (marked k || not (some candidate ks))) k (target ks)
-  target-more k ks =
-      go (candidate k) (marked k) (some candidate ks) (some both ks) (none-both ks) (none-last ks)
-    where
-      go :
-          (a m c b : Bool) → (c ≡ false → b ≡ false) → (c ≡ false → last candidate ks ≡ noPlan)
-          → cond (a && m || b) (cond (a && m) k (first both ks)) (cond c (last candidate ks) (cond a k noPlan))
-          ≡ cond (a && (m || not c)) k (cond b (first both ks) (last candidate ks))
-      go true true c b f g = refl
-      go true false true b f g = refl
-      go true false false b f g = rw (f refl) refl
-      go false m true b f g = refl
-      go false m false b f g = rw (f refl) (sym (g refl))
+  pub kept-none : Kept [] 0
+  kept-none = inl (record { zero = refl; unmarked = refl; blank = refl })
 
-  -- the rank of the target, and that no child has it where there is no candidate
-  module _ (rankOf : ℕ → ℕ) where
-    abbrev pub targetRank : List ℕ → ℕ
-    targetRank ks = cond (some candidate ks) (rankOf (target ks)) noRank
+  -- the code's test of what is kept
+  abbrev pub stays : ℕ → Bool
+  stays v = not (eqb v 0) && marked v
 
-    abbrev pub Small : List ℕ → Type 0
-    Small ks = some candidate ks ≡ true → rankOf (target ks) < noRank
+  module _ (ks : List ℕ) (v k : ℕ) where
+    both-more : some both (ks ++ k ∷ []) ≡ (some both ks || both k)
+    both-more = some-snoc both ks k true
 
-    pub rank-more :
-        (k : ℕ) (ks : List ℕ) → Small ks
-        → preferred (candidate k) (marked k) (targetRank ks) (rankOf k) ≡ targetRank (k ∷ ks)
-    rank-more k ks small =
-        rw (target-more k ks) (go (candidate k) (marked k) (some candidate ks) small)
+    target-more : target (ks ++ k ∷ []) ≡ cond (candidate k) (cond (some both ks) (target ks) k) (target ks)
+    target-more =
+        rw (both-more, first-snoc both ks k, last-snoc candidate ks k)
+        (go (candidate k) (marked k) (some both ks))
       where
         go :
-            (a m c : Bool) → (c ≡ true → rankOf (target ks) < noRank)
-            → cond (a && (m || eqb (cond c (rankOf (target ks)) noRank) noRank)) (rankOf k) (cond c (rankOf (target ks)) noRank)
-            ≡ cond (a || c) (rankOf (cond (a && (m || not c)) k (target ks))) noRank
-        go true true c f = refl
-        go true false true f = rw (ne-eqb (rankOf (target ks)) noRank (λ e. omega (arith, f refl))) refl
-        go true false false f = refl
-        go false m true f = refl
-        go false m false f = refl
+            (a m b : Bool)
+            → cond (b || a && m) (cond b (first both ks) (cond (a && m) k noPlan)) (cond a k (last candidate ks))
+            ≡ cond a (cond b (cond b (first both ks) (last candidate ks)) k) (cond b (first both ks) (last candidate ks))
+        go true true true = refl
+        go true true false = refl
+        go true false true = refl
+        go true false false = refl
+        go false m true = refl
+        go false m false = refl
 
-    pub small-more : (k : ℕ) (ks : List ℕ) → rankOf k < noRank → Small ks → Small (k ∷ ks)
-    small-more k ks l small =
-        rw (target-more k ks) (go (candidate k) (marked k) (some candidate ks) small)
+    -- one that is no candidate changes nothing
+    pub kept-past : candidate k ≡ false → Kept ks v → Kept (ks ++ k ∷ []) v
+    kept-past e = go
       where
-        go :
-            (a m c : Bool) → (c ≡ true → rankOf (target ks) < noRank) → (a || c) ≡ true
-            → rankOf (cond (a && (m || not c)) k (target ks)) < noRank
-        go true true c f e = l
-        go true false true f e = f refl
-        go true false false f e = l
-        go false m true f e = f refl
-        go false m false f e = absurd (false≢true e)
+        target-same : target (ks ++ k ∷ []) ≡ target ks
+        target-same = target-more ∙ rw e refl
+
+        both-same : some both (ks ++ k ∷ []) ≡ some both ks
+        both-same = both-more ∙ rw e (or-false (some both ks))
+
+        go : Kept ks v → Kept (ks ++ k ∷ []) v
+        go (inl h) =
+            inl (record { zero = h .zero; unmarked = both-same ∙ h .unmarked; blank = target-same ∙ h .blank })
+        go (inr h) =
+            inr (record { later = h .later; best = h .best ∙ sym target-same; telling = h .telling ∙ sym both-same })
+
+    -- a candidate that is kept and marked stays
+    pub kept-stays : candidate k ≡ true → stays v ≡ true → Kept ks v → Kept (ks ++ k ∷ []) v
+    kept-stays e s (inl h) = absurd (false≢true (sym (rw (h .zero) refl) ∙ s))
+    kept-stays e s (inr h) =
+        inr
+        (record {
+          later = h .later;
+          best = h .best ∙ sym (target-more ∙ rw (e, some-both) refl);
+          telling = is-marked ∙ sym (both-more ∙ rw some-both refl);
+        })
+      where
+        is-marked : marked v ≡ true
+        is-marked = rw (ne-eqb v 0 (λ z. omega (arith, h .later))) at s
+
+        some-both : some both ks ≡ true
+        some-both = sym (h .telling) ∙ is-marked
+
+    -- else the new one takes its place
+    pub kept-takes : 0 < k → candidate k ≡ true → stays v ≡ false → Kept ks v → Kept (ks ++ k ∷ []) k
+    kept-takes l e s h =
+        inr
+        (record {
+          later = l;
+          best = sym (target-more ∙ rw (e, none-both h) refl);
+          telling = sym (both-more ∙ rw (none-both h, e) refl);
+        })
+      where
+        none-both : Kept ks v → some both ks ≡ false
+        none-both (inl h) = h .unmarked
+        none-both (inr h) = sym (h .telling) ∙ rw (ne-eqb v 0 (λ z. omega (arith, h .later))) at s
+
+  -- what is kept in the end tells the target from the other plans
+  pub kept-tells : (ks : List ℕ) (v p : ℕ) → 0 < p → p < noPlan → Kept ks v → eqb p v ≡ eqb p (target ks)
+  kept-tells ks v p l small (inl h) =
+      ne-eqb p v (λ e. omega (arith, h .zero)) ∙ sym (ne-eqb p (target ks) (λ e. omega (arith, h .blank)))
+  kept-tells ks v p l small (inr h) = ap (eqb p) (h .best)
 
 -- a byte is tested for the code of a state: one that is no code counts as Rejected
 pub test-byte : (x : PlanState) → is x Rejected ≡ false → (b : ℕ) → eqb b (code x) ≡ is x (stateOf b)
@@ -120,36 +165,7 @@ test-byte x e b = go (decLt b 9)
         rw (List·getD-eq-default byCode Rejected {n = b} (omega arith))
         (ne-eqb b (code x) (λ z. omega (arith, code-lt x)) ∙ sym e)
 
--- The children of q among the m plans from k on.
-module _ (t : List ℕ) (q : ℕ) where
-  unfoldable pub childrenFrom : ℕ → ℕ → List ℕ
-  childrenFrom k zero = []
-  childrenFrom k (suc m) = cond (isChild t q k) (k ∷ childrenFrom (suc k) m) (childrenFrom (suc k) m)
-
-  pub child-test : (k : ℕ) → 0 < k → isChild t q k ≡ eqb (parent t k) q
-  child-test zero l = absurd (omega arith)
-  child-test (suc k) l = refl
-
-  joined : (m k : ℕ) → childrenBefore t q k ++ childrenFrom k m ≡ childrenBefore t q (k + m)
-  unfolding childrenFrom childrenBefore
-  joined zero k = let e : k + 0 ≡ k = omega arith in rw (append-nil, e) refl
-  joined (suc m) k =
-      let e : suc k + m ≡ k + suc m = omega arith in
-      go (isChild t q k) refl ∙ joined m (suc k) ∙ ap (childrenBefore t q) e
-    where
-      go :
-          (b : Bool) → isChild t q k ≡ b
-          → childrenBefore t q k ++ cond b (k ∷ childrenFrom (suc k) m) (childrenFrom (suc k) m)
-          ≡ childrenBefore t q (suc k) ++ childrenFrom (suc k) m
-      go true e = rw e (sym (append-assoc (childrenBefore t q k) (k ∷ []) (childrenFrom (suc k) m)))
-      go false e = rw (e, append-nil) refl
-
-  pub all-children : 0 < planCount t → childrenFrom 1 (planCount t - 1) ≡ children t q
-  unfolding children childrenBefore
-  all-children l =
-      let e : 1 + (planCount t - 1) ≡ planCount t = omega arith in
-      joined (planCount t - 1) 1 ∙ ap (childrenBefore t q) e
-
+-- One pass up through the plans.
 module _ (t s shown : List ℕ) where
   abbrev isReady : ℕ → Bool
   isReady c = is Ready (stateAt s c)
@@ -157,119 +173,171 @@ module _ (t s shown : List ℕ) where
   abbrev isShown : ℕ → Bool
   isShown c = is Activated (stateAt shown c)
 
-  -- the rank that is found for q when the plans from k on have been looked at
-  abbrev rankFound : ℕ → ℕ → ℕ → ℕ
-  rankFound n q k = targetRank isReady isShown (rank t) (childrenFrom t q k (n - k))
+  abbrev KeptBefore : ℕ → ℕ → ℕ → Type 0
+  KeptBefore q p v = Kept isReady isShown (childrenBefore t q p) v
 
-  pub record Passed (n k : ℕ) (chosen : List ℕ) : Type 0 where
-    pub found : (q : ℕ) → q < n → byteAt chosen q ≡ rankFound n q k
-    pub small : (q : ℕ) → q < n → Small isReady isShown (rank t) (childrenFrom t q k (n - k))
+  -- what `choose` knows before its turn at plan p
+  pub record Choosing (n : ℕ) (chosen₀ : List ℕ) (p : ℕ) (chosen : List ℕ) : Type 0 where
+    pub started : 0 < p
+    pub within : p ≤ n
+    pub long : length chosen ≡ length chosen₀
+    pub below : (q : ℕ) → q < p → byteAt chosen q < p
+    pub kept : (q : ℕ) → q < p → KeptBefore q p (byteAt chosen q)
 
-  pub none-passed : (n : ℕ) (chosen : List ℕ) → ((q : ℕ) → q < n → byteAt chosen q ≡ noRank) → Passed n n chosen
-  unfolding childrenFrom
-  none-passed n chosen h =
-      let e : n - n ≡ 0 = omega arith in
-      record { found = λ q l. rw e (h q l); small = λ q l. rw e (λ x. absurd (false≢true x)) }
+  pub choosing-root : (n : ℕ) (chosen : List ℕ) → 0 < n → byteAt chosen 0 ≡ 0 → Choosing n chosen 1 chosen
+  unfolding childrenBefore
+  choosing-root n chosen some first-zero =
+      record {
+        started = omega arith;
+        within = omega arith;
+        long = refl;
+        below = λ q l. let e : q ≡ 0 = omega arith in rw (e, first-zero) (omega arith);
+        kept = λ q l. let e : q ≡ 0 = omega arith in rw (e, first-zero) (kept-none isReady isShown);
+      }
 
-  -- One more plan: only its parent's rank may change.
-  module _ (n k : ℕ) (chosen : List ℕ) (passed : Passed n (suc k) chosen) (positive : 0 < k) (within : k < n)
-      (room : n ≤ length chosen) (above : parent t k < k) (narrow : rank t k < noRank) where
-    abbrev behind : ℕ → List ℕ
-    behind q = childrenFrom t q (suc k) (n - suc k)
+  -- the code's test of the plan that is kept
+  abbrev staysShown : ℕ → Bool
+  staysShown v = not (eqb v 0) && eqb (byteAt shown v) (code Activated)
 
-    from-here : (q : ℕ) (b : Bool) → eqb (parent t k) q ≡ b → childrenFrom t q k (n - k) ≡ cond b (k ∷ behind q) (behind q)
-    unfolding childrenFrom
-    from-here q b h = let e : n - k ≡ suc (n - suc k) = omega arith in rw (e, child-test t q k positive, h) refl
+  -- what a turn at a Ready plan p, the child of q, needs and does, in the code's words
+  pub record ChoiceTurn (n : ℕ) (chosen₀ : List ℕ) (p : ℕ) (chosen : List ℕ) (q : ℕ) : Type 0 where
+    pub reads : q < length (set chosen p 0)
+    pub low : byteAt (set chosen p 0) q < p
+    pub keeps : staysShown (byteAt (set chosen p 0) q) ≡ true → Choosing n chosen₀ (p + 1) (set chosen p 0)
+    pub takes : staysShown (byteAt (set chosen p 0) q) ≡ false → Choosing n chosen₀ (p + 1) (set (set chosen p 0) q p)
 
-    abbrev q : ℕ
-    q = parent t k
-
-    own : childrenFrom t q k (n - k) ≡ k ∷ behind q
-    own = from-here q true (eq-eqb q q refl)
-
-    pub one-more :
-        (v : ℕ) → v ≡ preferred (eqb (byteAt s k) (code Ready)) (eqb (byteAt shown k) (code Activated)) (byteAt chosen q) (rank t k)
-        → Passed n k (set chosen q v)
-    unfolding stateAt
-    one-more v e = record { found = λ p l. found-at p l (ℕ-discrete q p); small = λ p l. small-at p l (ℕ-discrete q p) }
-      where
-        there : q < n
-        there = omega arith
-
-        value : v ≡ rankFound n q k
-        value =
-            e
-            ∙ rw
-            (test-byte Ready refl (byteAt s k), test-byte Activated refl (byteAt shown k), passed .found q there, own)
-            (rank-more isReady isShown (rank t) k (behind q) (passed .small q there))
-
-        found-at : (p : ℕ) → p < n → Dec (q ≡ p) → byteAt (set chosen q v) p ≡ rankFound n p k
-        found-at p l (yes y) = rw (← y) (getD-set-same chosen q v 0 (omega arith) ∙ value)
-        found-at p l (no y) =
-            rw (from-here p false (ne-eqb q p y)) (getD-set-other chosen q p v 0 (λ x. y (sym x)) ∙ passed .found p l)
-
-        small-at : (p : ℕ) → p < n → Dec (q ≡ p) → Small isReady isShown (rank t) (childrenFrom t p k (n - k))
-        small-at p l (yes y) =
-            rw (← y) (rw own (small-more isReady isShown (rank t) k (behind q) narrow (passed .small q there)))
-        small-at p l (no y) = rw (from-here p false (ne-eqb q p y)) (passed .small p l)
-
-  -- one turn of the code
-  pub one-turn :
-      (n p above v : ℕ) (chosen ranks : List ℕ) → Rooted t n → Narrow t n ranks → 1 < p → p ≤ n → n ≤ length chosen
-      → above ≡ parent t (p - 1) → Passed n p chosen
-      → v
-      ≡ preferred (eqb (byteAt s (p - 1)) (code Ready)) (eqb (byteAt shown (p - 1)) (code Activated)) (byteAt chosen above)
-      (byteAt ranks (p - 1))
-      → Passed n (p - 1) (set chosen above v)
-  one-turn n p above v chosen ranks rooted narrow more within room is-parent passed value =
-      let k : ℕ = p - 1 in
-      let e : p ≡ suc k = omega arith in
-      let inside : k < n = omega arith in
-      rw is-parent
-      (one-more n k chosen (rw e at passed) (omega arith) inside room (rooted .down k (omega arith) inside)
-      (narrow .narrow k inside) v
-      (value ∙ rw (is-parent, narrow .ranked k inside) refl))
-
-  -- The rank that is found in the end tells a child from its siblings.
-  module _ (q p : ℕ) (child : SubPlan t q p) (small : p < noPlan) (narrow : rank t p < noRank) where
-    same-rank : (c : ℕ) → SubPlan t q c → eqb (rank t p) (rank t c) ≡ eqb p c
-    same-rank c d = go (ℕ-discrete p c)
-      where
-        go : Dec (p ≡ c) → eqb (rank t p) (rank t c) ≡ eqb p c
-        go (yes e) = eq-eqb (rank t p) (rank t c) (ap (rank t) e) ∙ sym (eq-eqb p c e)
-        go (no n) =
-            ne-eqb (rank t p) (rank t c)
-            (λ e. n (sym (at-rank t q p 0 child) ∙ ap (λ (k : ℕ). getD (children t q) k 0) e ∙ at-rank t q c 0 d))
-            ∙ sym (ne-eqb p c n)
-
-    rank-tells :
-        eqb (rank t p) (targetRank isReady isShown (rank t) (children t q)) ≡ eqb p (activatedChild t s shown q)
-    unfolding activatedChild
-    rank-tells = go (some isReady (children t q)) refl
-      where
-        go :
-            (b : Bool) → some isReady (children t q) ≡ b
-            → eqb (rank t p) (cond b (rank t (activatedChild t s shown q)) noRank) ≡ eqb p (activatedChild t s shown q)
-        go true e = same-rank _ (member-child t q _ (activated-found t s shown q (rw e tt) .member))
-        go false e =
-            ne-eqb (rank t p) noRank (λ x. omega arith)
-            ∙ sym (ne-eqb p (activatedChild t s shown q) (λ x. omega (arith, target-none isReady isShown (children t q) e)))
-
-  pub all-passed : (n : ℕ) (chosen ranks : List ℕ) → n ≡ planCount t → Rooted t n → Narrow t n ranks → Passed n 1 chosen → Chosen t s shown chosen
-  all-passed n chosen ranks whole rooted narrow passed =
-      record { tells = tells }
+  -- A turn at plan p.
+  module _
+      (n p : ℕ)
+      (rooted : Rooted t n)
+      (chosen₀ chosen : List ℕ)
+      (room : n ≤ length chosen₀)
+      (before : Choosing n chosen₀ p chosen)
+      (l : p < n)
     where
-      tells :
-          (p : ℕ) → 0 < p → p < planCount t
-          → eqb (rank t p) (byteAt chosen (parent t p)) ≡ eqb p (activatedChild t s shown (parent t p))
-      tells zero l h = absurd (omega arith)
-      tells (suc j) l h =
-          let p : ℕ = suc j in
-          let q : ℕ = parent t p in
-          let above = rooted .down p l (omega arith) in
-          let all : childrenFrom t q 1 (n - 1) ≡ children t q = rw whole (all-children t q (omega arith)) in
-          rw (passed .found q (omega arith), all)
-          (rank-tells q p (sub-plan t j h) (omega (arith, rooted .small)) (narrow .narrow p (omega arith)))
+      abbrev cleared : List ℕ
+      cleared = set chosen p 0
+
+      abbrev q : ℕ
+      q = parent t p
+
+      parent-before : q < p
+      parent-before = rooted .down p (before .started) l
+
+      cleared-long : length cleared ≡ length chosen₀
+      cleared-long = length-set chosen p 0 ∙ before .long
+
+      cleared-old : (k : ℕ) → (k ≡ p → ⊥) → byteAt cleared k ≡ byteAt chosen k
+      cleared-old k ne = getD-set-other chosen p k 0 0 ne
+
+      cleared-new : byteAt cleared p ≡ 0
+      cleared-new = getD-set-same chosen p 0 0 (omega (arith, before .long))
+
+      cleared-below : (k : ℕ) → k < p + 1 → Dec (k ≡ p) → byteAt cleared k < p
+      cleared-below k lk (yes e) = rw (e, cleared-new) (before .started)
+      cleared-below k lk (no ne) = rw (cleared-old k ne) (before .below k (omega arith))
+
+      -- plan p has no child yet
+      cleared-kept : (k : ℕ) → k < p + 1 → Dec (k ≡ p) → KeptBefore k p (byteAt cleared k)
+      cleared-kept k lk (yes e) =
+          rw (e, cleared-new, children-none t n rooted p p (omega arith) (omega arith)) (kept-none isReady isShown)
+      cleared-kept k lk (no ne) = rw (cleared-old k ne) (before .kept k (omega arith))
+
+      reads : q < length cleared
+      reads = omega (arith, parent-before, cleared-long)
+
+      low : byteAt cleared q < p
+      low = cleared-below q (omega (arith, parent-before)) (ℕ-discrete q p)
+
+      held : KeptBefore q p (byteAt cleared q)
+      held = cleared-kept q (omega (arith, parent-before)) (ℕ-discrete q p)
+
+      -- only the parent has one child more, so only what it keeps is to be looked at
+      kept-own : (v : ℕ) → Kept isReady isShown (childrenBefore t q p ++ p ∷ []) v → KeptBefore q (suc p) v
+      kept-own v h = rw (children-own t q p (before .started) refl) h
+
+      module _
+          (after : List ℕ)
+          (long : length after ≡ length chosen₀)
+          (others : (k : ℕ) → (k ≡ q → ⊥) → byteAt after k ≡ byteAt cleared k)
+          (own-below : byteAt after q < p + 1)
+          (own : KeptBefore q (suc p) (byteAt after q))
+        where
+          next-below : (k : ℕ) → k < p + 1 → Dec (k ≡ q) → byteAt after k < p + 1
+          next-below k lk (yes e) = rw e own-below
+          next-below k lk (no ne) = rw (others k ne) (omega (arith, cleared-below k lk (ℕ-discrete k p)))
+
+          next-kept : (k : ℕ) → k < p + 1 → Dec (k ≡ q) → KeptBefore k (suc p) (byteAt after k)
+          next-kept k lk (yes e) = rw e own
+          next-kept k lk (no ne) =
+              rw (others k ne, children-other t k p (before .started) (λ e. ne (sym e)))
+              (cleared-kept k lk (ℕ-discrete k p))
+
+          next : Choosing n chosen₀ (p + 1) after
+          next =
+              record {
+                started = omega arith;
+                within = omega arith;
+                long = long;
+                below = λ k lk. next-below k lk (ℕ-discrete k q);
+                kept = λ k lk. rw (add-one p) (next-kept k lk (ℕ-discrete k q));
+              }
+
+      next-cleared : Kept isReady isShown (childrenBefore t q p ++ p ∷ []) (byteAt cleared q) → Choosing n chosen₀ (p + 1) cleared
+      next-cleared h = next cleared cleared-long (λ k ne. refl) (omega (arith, low)) (kept-own (byteAt cleared q) h)
+
+      next-taken :
+          Kept isReady isShown (childrenBefore t q p ++ p ∷ []) p → Choosing n chosen₀ (p + 1) (set cleared q p)
+      next-taken h =
+          next (set cleared q p) (length-set cleared q p ∙ cleared-long) (λ k ne. getD-set-other cleared q k p 0 ne)
+          (rw now-p (omega arith))
+          (rw now-p (kept-own p h))
+        where
+          now-p : byteAt (set cleared q p) q ≡ p
+          now-p = getD-set-same cleared q p 0 reads
+
+      ready-by : (b : Bool) → eqb (byteAt s p) (code Ready) ≡ b → isReady p ≡ b
+      unfolding stateAt
+      ready-by b e = sym (test-byte Ready refl (byteAt s p)) ∙ e
+
+      stays-by : (v : ℕ) (b : Bool) → staysShown v ≡ b → stays isReady isShown v ≡ b
+      unfolding stateAt
+      stays-by v b e = rw (← test-byte Activated refl (byteAt shown v)) e
+
+      pub choosing-past : (byteAt s p ≡ code Ready → ⊥) → Choosing n chosen₀ (p + 1) cleared
+      choosing-past ne = next-cleared (kept-past isReady isShown _ _ p (ready-by false (ne-eqb _ _ ne)) held)
+
+      pub choice-turn : byteAt s p ≡ code Ready → (r : ℕ) → r ≡ q → ChoiceTurn n chosen₀ p chosen r
+      choice-turn e r is-parent = rw is-parent turn
+        where
+          ready : isReady p ≡ true
+          ready = ready-by true (eq-eqb _ _ e)
+
+          turn : ChoiceTurn n chosen₀ p chosen q
+          turn =
+              record {
+                reads = reads;
+                low = low;
+                keeps = λ h. next-cleared (kept-stays isReady isShown _ _ p ready (stays-by (byteAt cleared q) true h) held);
+                takes =
+                    λ h. next-taken (kept-takes isReady isShown _ _ p (before .started) ready (stays-by (byteAt cleared q) false h) held);
+              }
+
+  -- after the last turn
+  pub all-chosen :
+      (n p : ℕ) (chosen₀ chosen : List ℕ) → n ≡ planCount t → Rooted t n → n ≤ p → Choosing n chosen₀ p chosen
+      → Chosen t s shown chosen
+  unfolding activatedChild children
+  all-chosen n p chosen₀ chosen whole rooted end after =
+      record {
+        tells =
+            λ k l h.
+            kept-tells isReady isShown _ _ k l (omega (arith, rooted .small))
+            (rw all at (after .kept (parent t k) (omega (arith, rooted .down k l (omega arith)))));
+      }
+    where
+      all : p ≡ planCount t
+      all = omega (arith, after .within)
 
 -- plan 0 moves alike, whatever is chosen
 pub at-root :

@@ -3,11 +3,14 @@
 use Prim.Native.Nat.{ℕ, zero, suc, _+_, _*_, _-_, _≤_, _<_}
 use native.Mathlib.Omega.{arith}
 use native.Mathlib.Numerals.{add-one}
-use mathlib.Core.Path.{_≡_, refl, ap, _∙_}
+use mathlib.Core.Path.{_≡_, refl, sym, ap, _∙_}
+use mathlib.Core.Bool.{Bool, true, false, _&&_, true≢false}
 use mathlib.Core.Logic.{_↔_, _⊎_, inl, inr}
 use mathlib.Core.List.{List, _∷_}
-use lib.ListN.{length, take, drop, replicate, length-drop}
+use lib.Dec.{eqb, ltb}
+use lib.ListN.{length, take, drop, replicate, length-drop, length-replicate}
 use lib.Seq.{length-take-le}
+use borrow.Author.Tests.{eqb-true, eq-eqb, ltb-true, ltb-false}
 use Rattle.rules.specs.Bytes.{byteAt}
 use Rattle.rules.specs.States.{code}
 use Rattle.rules.specs.Table.{planCount}
@@ -17,8 +20,10 @@ use Rattle.rules.specs.Answers.{badRecordWord, tableCheck, recordCheck, wordsCh
 use Rattle.rules.specs.declared.Refusal.the-variants.{Word, Unexplained}
 use Rattle.rules.specs.declared.Outcome.the-variants.{Done, Refused}
 use Rattle.rules.specs.declared.Verdict.the-variants as verdict
+use Rattle.rules.specs.declared.PlanState.the-variants.{Inactive}
 use Rattle.rules.proofs.Outcomes.{pass-at-last, stop-at-last}
 use Rattle.rules.proofs.Tree.{passes, tree}
+use Rattle.children.specs.Sets.{Surveyed}
 use Rattle.table.specs.Lowest.{Lowest}
 use Rattle.table.proofs.Reading.{found-at, found-none}
 use Rattle.step.specs.Calls.{Ready}
@@ -34,6 +39,41 @@ pub idle-part : (k m a : ℕ) → k ≤ m → take k (replicate m a) ≡ replica
 idle-part zero m a l = refl
 idle-part (suc k) zero a l = absurd (omega arith)
 idle-part (suc k) (suc m) a l = ap (λ (z : List ℕ). a ∷ z) (idle-part k m a (omega arith))
+
+-- before the first step: the states, and that its plans may be surveyed, whatever words they get
+module _ {t r ranks names : List ℕ} (sound : Sound t r ranks names) {n : ℕ} (whole : n ≡ planCount t) where
+  pub idle-few : n ≤ 256
+  idle-few = omega (arith, tree t (passes t (table-done t r (sound .done))) .small)
+
+  idle-states : take n (replicate 256 (code Inactive)) ≡ statesBefore t r 0
+  idle-states = idle-part n 256 (code Inactive) idle-few ∙ ap (λ (k : ℕ). replicate k (code Inactive)) whole
+
+  pub idle-ready : Ready t (take n (replicate 256 (code Inactive))) (replicate (4 * planCount t) 0) ranks names
+  idle-ready =
+      record {
+        prepared = sound .prepared;
+        passes = rw idle-states (before-passes t r (table-done t r (sound .done)) 0 (λ j l. absurd (omega arith)));
+        words = length-replicate (4 * planCount t) 0;
+      }
+
+  pub idle-surveyed : (sets : List ℕ) → Surveyed t (take n (replicate 256 (code Inactive))) n sets → Surveyed t (statesBefore t r 0) n sets
+  idle-surveyed sets surveyed = rw idle-states at surveyed
+
+-- the search among the plans of a step goes on only where no word is wrong
+pub record Going (wrong n p : ℕ) : Type 0 where
+  pub right : wrong ≡ n
+  pub inside : p < n
+
+pub going : (wrong n p : ℕ) → (eqb wrong n && ltb p n) ≡ true → Going wrong n p
+going wrong n p = go (eqb wrong n) (ltb p n) refl refl
+  where
+    go : (a b : Bool) → eqb wrong n ≡ a → ltb p n ≡ b → (a && b) ≡ true → Going wrong n p
+    go true true ea eb e = record { right = eqb-true wrong n ea; inside = ltb-true p n eb }
+    go true false ea eb e = absurd (true≢false (sym e))
+    go false b ea eb e = absurd (true≢false (sym e))
+
+pub gone : (wrong n p : ℕ) → wrong ≡ n → (eqb wrong n && ltb p n) ≡ false → n ≤ p
+gone wrong n p e left = ltb-false p n (rw (eq-eqb wrong n e) at left)
 
 -- a part of a list that has it is as long as it says
 part-long : (r : List ℕ) (from long : ℕ) → from + long ≤ length r → length (take long (drop from r)) ≡ long
@@ -81,6 +121,22 @@ module _ {t r ranks names : List ℕ} {n steps i : ℕ} (here : Here t r ranks n
         passes = rw is-old (before-passes t r done i (here .before));
         words = rw (← here .whole) (words-long words is-words);
       }
+
+  -- and, once they have moved to the states shown, from these
+  pub shown-ready :
+      (words shown : List ℕ) → words ≡ wordsOf t r i → shown ≡ statesOf t r i → ((j : ℕ) → j < i + 1 → StepPasses t r j)
+      → Ready t shown words ranks names
+  shown-ready words shown is-words is-shown before-next =
+      record {
+        prepared = here .sound .prepared;
+        passes = rw is-shown (before-passes t r done (suc i) (λ j l. before-next j (omega arith)));
+        words = rw (← here .whole) (words-long words is-words);
+      }
+
+  -- which are the states before the next step
+  pub next-surveyed :
+      (shown sets : List ℕ) → shown ≡ statesOf t r i → Surveyed t shown n sets → Surveyed t (statesBefore t r (i + 1)) n sets
+  next-surveyed shown sets is-shown surveyed = rw (add-one i) (rw is-shown at surveyed)
 
   -- check 12
   module _ (words : List ℕ) (is-words : words ≡ wordsOf t r i) (p : ℕ) (lowest : Lowest (badRecordWord words) n p) where

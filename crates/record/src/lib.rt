@@ -4,20 +4,19 @@ ghost use mathlib.Core.Path.{_≡_};
 ghost use mathlib.Core.List.{List};
 ghost use Prim.Native.Nat.{ℕ, _+_, _*_, _<_, _≤_};
 ghost use lib.ListN.{length, take, replicate};
-ghost use Rattle.rules.specs.Bytes.{byteAt};
 ghost use Rattle.rules.specs.States.{code};
 ghost use Rattle.rules.specs.Table.{planCount};
 ghost use Rattle.rules.specs.Step.{newState};
 ghost use Rattle.rules.specs.Record.{stepCount, wordsOf, statesOf, statesBefore};
 ghost use Rattle.rules.specs.Answers.{badRecordWord, wrongHeader, Judged};
-ghost use Rattle.children.specs.Sets.{Rooted, Narrow};
+ghost use Rattle.children.specs.Sets.{Rooted};
 ghost use Rattle.table.specs.Facts.{Prepared};
 ghost use Rattle.table.specs.Lowest.{Lowest};
 ghost use Rattle.step.specs.Scene.{Scene};
 ghost use Rattle.demands.specs.Witness.{activatedChild};
 ghost use Rattle.rules.specs.declared.PlanState.the-variants.{Inactive};
-ghost use Rattle.record.specs.Steps.{Lies, noRank, Chosen, Sound};
-ghost use Rattle.record.specs.Steps.{preferred as Steps·preferred};
+ghost use Rattle.record.specs.Steps.{Lies, anyBelow, Chosen, Sound};
+use children::resurvey;
 use children::survey;
 use rules::Outcome;
 use rules::PlanState;
@@ -26,19 +25,13 @@ use rules::Verdict;
 use rules::parent_at;
 use rules::u16_at;
 use rules::word_at;
-use step::ByParent;
-use step::by_parent;
 use step::next_child;
 use step::next_root;
 use step::other_bits;
 use step::pick_of;
-use step::wide;
 use step::word_contradicts;
 use table::has_mark;
 use table::read_table;
-
-// A rank that no child has.
-const NO_RANK: u8 = 64;
 
 // The words part of step i.
 fn words_of(record: &[u8], n: usize, i: usize) -> &[u8]
@@ -80,11 +73,27 @@ fn wrong_word(words: &[u8], p: usize) -> bool
     other_bits(x) | (pick_of(x) != 0) | word_contradicts(x)
 }
 
+// Check 12: whether one of the first n words is wrong. It has no branch, so that the compiler can look at several words at once: in
+// nearly every step all words are right.
+fn any_wrong_word(words: &[u8], n: usize) -> bool
+    requires { ⌜ 4 * n ≤ length (now words) ⌝ }
+    ensures { λ r. ⌜ r ≡ anyBelow (badRecordWord (now (words .entry))) n ⌝ }
+{
+    let mut bad = false;
+    for p in 0..n {
+        bad = bad | wrong_word(words, p);
+    }
+    bad
+}
+
 // Check 12: the lowest plan with a wrong word, or n.
 fn lowest_wrong_word(words: &[u8], n: usize) -> usize
     requires { ⌜ 4 * n ≤ length (now words) ⌝ }
     ensures { λ r. ⌜ Lowest (badRecordWord (now (words .entry))) n r ⌝ }
 {
+    if !any_wrong_word(words, n) {
+        return n;
+    }
     let mut p = 0;
     while p < n {
         if wrong_word(words, p) {
@@ -95,32 +104,26 @@ fn lowest_wrong_word(words: &[u8], n: usize) -> usize
     p
 }
 
-// The rank that a plan would have activated, where one more of its children is looked at, from the highest down: the lowest Ready one
-// that is shown Activated, else the highest Ready one.
-fn preferred(ready: bool, activated: bool, before: u8, rank: u8) -> u8
-    ensures { λ r. ⌜ r ≡ Steps·preferred ready activated before rank ⌝ }
-{
-    if ready & (activated | (before == NO_RANK)) {
-        rank
-    } else {
-        before
-    }
-}
-
-// For each plan the rank of the child that the states shown let it have activated, where `chosen` holds a rank that no child has.
-fn choose(table: &[u8], n: usize, ranks: &[u8], old: &[u8], shown: &[u8], chosen: &mut [u8])
-    requires table { ⌜ (n ≡ planCount (now table)) × Rooted (now table) n × Narrow (now table) n (now ranks) ⌝ }
-    requires room { ⌜ (n ≤ length (now ranks)) × (n ≤ length (now old)) × (n ≤ length (now shown)) × (n ≤ length (now chosen)) ⌝ }
-    requires empty { ⌜ ((q : ℕ) → q < n → byteAt (now chosen) q ≡ noRank) ⌝ }
+// For each plan the child that the states shown let it have activated: the lowest Ready one that is shown Activated, else the highest
+// Ready one; 0, which is nobody's child, where no child is Ready.
+fn choose(table: &[u8], n: usize, old: &[u8], shown: &[u8], chosen: &mut [u8])
+    requires table { ⌜ (0 < n) × (n ≡ planCount (now table)) × Rooted (now table) n ⌝ }
+    requires room { ⌜ (n ≤ length (now old)) × (n ≤ length (now shown)) × (n ≤ length (now chosen)) ⌝ }
     ensures { λ _. ⌜ Chosen (now (table .entry)) (now (old .entry)) (now (shown .entry)) (now (chosen .exit)) ⌝ }
 {
-    let mut p = n;
-    while 1 < p {
-        p -= 1;
+    chosen[0] = 0;
+    for p in 1..n {
+        chosen[p] = 0;
+        if old[p] != PlanState::READY {
+            continue;
+        }
         let q = parent_at(table, p);
-        let ready = old[p] == PlanState::READY;
-        let activated = shown[p] == PlanState::ACTIVATED;
-        chosen[q] = preferred(ready, activated, chosen[q], ranks[p]);
+        // A child shown Activated stays; any other gives way to a higher one.
+        let kept = chosen[q] as usize;
+        if (kept != 0) & (shown[kept] == PlanState::ACTIVATED) {
+            continue;
+        }
+        chosen[q] = p as u8;
     }
 }
 
@@ -146,13 +149,9 @@ fn next_shown(
         return next_root(table, ranks, names, sets, old, words);
     }
     let q = parent_at(table, p);
-    match by_parent(PlanState::from_byte(shown[q]), PlanState::from_byte(old[p])) {
-        ByParent::Settled(state) => state,
-        ByParent::Open => {
-            let rank = wide(chosen[q]);
-            next_child(table, ranks, names, sets, old, words, shown, p, rank)
-        }
-    }
+    let plan = p as u8;
+    let is_chosen = plan == chosen[q];
+    next_child(table, ranks, names, sets, old, words, shown, p, is_chosen)
 }
 
 // The steps of a record of good form, one after the other, and in each its plans: the first step with a wrong word or with a plan that
@@ -171,24 +170,20 @@ fn check_steps(
 {
     let idle = [PlanState::INACTIVE; 256];
     let mut sets = [0u64; 2304];
+    let mut chosen = [0u8; 256];
+    survey(table, n, ranks, &idle[..n], &mut sets);
     let mut bad_step = 0;
     let mut bad_plan = 0;
     let mut i = 0;
     'search: while i < steps {
         let words = words_of(record, n, i);
         let wrong = lowest_wrong_word(words, n);
-        if wrong < n {
-            let step = (i + 1) as u16;
-            let plan = wrong as u16;
-            return Verdict::Refused(Refusal::Word { step, plan });
-        }
         let old = states_before(&idle, record, n, i);
         let shown = states_of(record, n, i);
-        let mut chosen = [NO_RANK; 256];
-        survey(table, n, ranks, old, &mut sets);
-        choose(table, n, ranks, old, shown, &mut chosen);
+        choose(table, n, old, shown, &mut chosen);
+        // 12 comes before 15: no plan is compared in a step with a wrong word
         let mut p = 0;
-        while p < n {
+        while (wrong == n) & (p < n) {
             let next = next_shown(table, ranks, names, &sets, &chosen, old, words, shown, p);
             if next.to_byte() != shown[p] {
                 bad_step = i + 1;
@@ -197,6 +192,12 @@ fn check_steps(
             }
             p += 1;
         }
+        if wrong < n {
+            let step = (i + 1) as u16;
+            let plan = wrong as u16;
+            return Verdict::Refused(Refusal::Word { step, plan });
+        }
+        resurvey(table, n, ranks, old, shown, &mut sets);
         i += 1;
     }
     if bad_step == 0 {

@@ -38,7 +38,7 @@ use Rattle.step.specs.HandedIn.{breaksBy}
 use Rattle.step.proofs.Moves.{state-is}
 
 -- one plan more in a list, or none
-some-snoc : (f : ℕ → Bool) (xs : List ℕ) (k : ℕ) (b : Bool) → some f (xs ++ cond b (k ∷ []) []) ≡ (some f xs || b && f k)
+pub some-snoc : (f : ℕ → Bool) (xs : List ℕ) (k : ℕ) (b : Bool) → some f (xs ++ cond b (k ∷ []) []) ≡ (some f xs || b && f k)
 some-snoc f [] k true = or-false (f k)
 some-snoc f [] k false = refl
 some-snoc f (x ∷ xs) k b = ap (λ (r : Bool). f x || r) (some-snoc f xs k b) ∙ sym (or-assoc (f x) (some f xs) (b && f k))

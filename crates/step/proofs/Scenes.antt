@@ -5,7 +5,7 @@ use mathlib.Core.Path.{_≡_, refl, sym, ap, _∙_}
 use mathlib.Core.Bool.{true, false, or-false}
 use mathlib.Core.List.{List}
 use lib.Dec.{eqb}
-use lib.ListN.{length, take}
+use lib.ListN.{length, take, getD}
 use borrow.Author.Tests.{ltb-true, not-false}
 use Rattle.rules.specs.Bytes.{byteAt}
 use Rattle.rules.specs.States.{code, isCode, stateOf, stateAt, is}
@@ -71,6 +71,22 @@ module _ (t s w ranks names : List ℕ) (ready : Ready t s w ranks names) (n : �
   pub codes : (p : ℕ) → p < n → byteAt s p < 9
   codes p l = ltb-true (byteAt s p) 9 (code-at p (ready .passes .unbroken p (omega arith)))
 
+  rank-room : n ≤ length ranks
+  rank-room = omega (arith, shape .small, ready .prepared .ranks-room)
+
+  state-room : n ≤ length s
+  state-room = omega (arith, ready .passes .long)
+
+  -- the plans may be surveyed
+  pub may-survey :
+      (sets : List ℕ) → n * 9 ≤ length sets → ((i : ℕ) → i < n * 9 → getD sets i 0 ≡ 0)
+      → Rooted t n
+      × (Narrow t n ranks
+      × (((p : ℕ) → p < n → byteAt s p < 9)
+      × (((n ≤ length ranks) × (n ≤ length s) × (n * 9 ≤ length sets)) × ((i : ℕ) → i < n * 9 → getD sets i 0 ≡ 0))))
+  may-survey sets room empty =
+      (rooted t (ready .prepared .done) n whole, (narrow, (codes, ((rank-room, state-room, room), empty))))
+
   module _ (sets : List ℕ) (surveyed : Surveyed t s n sets) (room : n * 9 ≤ length sets) where
     brood : (q : ℕ) → q < planCount t → Brood t s q sets
     unfolding setOf children
@@ -102,6 +118,38 @@ module _ (t s w ranks names : List ℕ) (ready : Ready t s w ranks names) (n : �
           brood = brood;
         }
 
+-- after they have moved to other states that pass, what changed may be moved in the words
+pub may-resurvey :
+    (t s w ranks names : List ℕ) → Ready t s w ranks names → (new : List ℕ) → Ready t new w ranks names → (n : ℕ) → n ≡ planCount t
+    → (sets : List ℕ) → Surveyed t s n sets → n * 9 ≤ length sets
+    → Rooted t n
+    × (Narrow t n ranks
+    × (((p : ℕ) → p < n → (byteAt s p < 9) × (byteAt new p < 9))
+    × (((n ≤ length ranks) × (n ≤ length s) × (n ≤ length new) × (n * 9 ≤ length sets)) × Surveyed t s n sets)))
+may-resurvey t s w ranks names ready new ready-new n whole sets surveyed room = (
+  rooted t (ready .prepared .done) n whole,
+  (
+    narrow t s w ranks names ready n whole,
+    (
+      λ p l. (codes t s w ranks names ready n whole p l, codes t new w ranks names ready-new n whole p l),
+      (
+        (
+          rank-room t s w ranks names ready n whole,
+          state-room t s w ranks names ready n whole,
+          state-room t new w ranks names ready-new n whole,
+          room,
+        ),
+        surveyed,
+      ),
+    ),
+  ),
+)
+
 -- the part of a list for n plans is that for the table's
 pub part-of-all : (n k : ℕ) (xs ys : List ℕ) → n ≡ k → take n xs ≡ ys → take k xs ≡ ys
 part-of-all n k xs ys e h = rw e at h
+
+-- and so is its survey
+pub surveyed-part :
+    (t : List ℕ) (n k : ℕ) (xs s sets : List ℕ) → k ≡ n → s ≡ take k xs → Surveyed t (take n xs) n sets → Surveyed t s n sets
+surveyed-part t n k xs s sets e h surveyed = rw (h, e) surveyed

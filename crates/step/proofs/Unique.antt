@@ -1,5 +1,5 @@
 -- One answer: any two states that the contract of `next_root` or of `next_child` permits are equal. `next_root` speaks of every
--- choice of a child to activate, `next_child` of every one that agrees with the rank handed in: such a choice is shown. Each is
+-- choice of a child to activate, `next_child` of every one that agrees with what is handed in: such a choice is shown. Each is
 -- shown of the definitions, and then of the contract itself as Rattle reads it: `Post κs a z e`, of the lifetimes, the arguments,
 -- the answer and the parameters at exit, arguments and parameters in the order of the declaration. Assumes nothing.
 use Prim.Native.Nat.{ℕ, suc}
@@ -11,7 +11,7 @@ use lib.Dec.{eqb}
 use borrow.Author.Tests.{eq-eqb, ne-eqb}
 use contract.Lifetimes.{Lfts}
 use denote.Ref.{now}
-use Rattle.rules.specs.Table.{parent, rank}
+use Rattle.rules.specs.Table.{parent}
 use Rattle.rules.specs.Step.{newState}
 use Rattle.rules.specs.declared.PlanState.{PlanState}
 use Rattle.rules.proofs.Unique.{one-answer}
@@ -31,10 +31,10 @@ chosen-if false p = sym (ne-eqb p (suc p) (λ e. omega arith))
 abbrev pub NextRoot : List ℕ → List ℕ → List ℕ → PlanState → Type 0
 NextRoot t s w r = (choice : ℕ → ℕ) (new : List ℕ) → r ≡ newState t s w choice new 0
 
--- the contract of `next_child`: the new state of plan p, under every choice that is p exactly when p's rank is `chosen`
-abbrev pub NextChild : List ℕ → List ℕ → List ℕ → List ℕ → ℕ → ℕ → PlanState → Type 0
+-- the contract of `next_child`: the new state of plan p, under every choice that is p exactly when `chosen` says so
+abbrev pub NextChild : List ℕ → List ℕ → List ℕ → List ℕ → ℕ → Bool → PlanState → Type 0
 NextChild t s w new p chosen r =
-    (choice : ℕ → ℕ) → eqb (rank t p) chosen ≡ eqb p (choice (parent t p)) → r ≡ newState t s w choice new p
+    (choice : ℕ → ℕ) → chosen ≡ eqb p (choice (parent t p)) → r ≡ newState t s w choice new p
 
 module _ (t s w : List ℕ) {r r′ : PlanState} where
   -- the root's new state is one
@@ -42,10 +42,10 @@ module _ (t s w : List ℕ) {r r′ : PlanState} where
   root-once h h′ = one-answer (h (λ q. 0) s) (h′ (λ q. 0) s)
 
   -- a child's new state is one
-  pub child-once : (new : List ℕ) (p chosen : ℕ) → NextChild t s w new p chosen r → NextChild t s w new p chosen r′ → r ≡ r′
+  pub child-once : (new : List ℕ) (p : ℕ) (chosen : Bool) → NextChild t s w new p chosen r → NextChild t s w new p chosen r′ → r ≡ r′
   child-once new p chosen h h′ =
-      let agrees = chosen-if (eqb (rank t p) chosen) p in
-      let choice : ℕ → ℕ = λ q. chosenIf (eqb (rank t p) chosen) p in
+      let agrees = chosen-if chosen p in
+      let choice : ℕ → ℕ = λ q. chosenIf chosen p in
       one-answer (h choice agrees) (h′ choice agrees)
 
 -- `next_root`: its answer is one

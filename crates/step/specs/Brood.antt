@@ -5,7 +5,7 @@ use mathlib.Core.List.{List}
 use lib.Dec.{T}
 use lib.ListN.{length, getD}
 use Rattle.rules.specs.States.{code, is, stateAt}
-use Rattle.rules.specs.Table.{planCount, entry, named, isChild, children}
+use Rattle.rules.specs.Table.{planCount, isChild, children}
 use Rattle.rules.specs.declared.PlanState.{PlanState}
 use Rattle.children.specs.Sets.{setOf}
 
@@ -19,14 +19,3 @@ pub record Brood (t s : List ℕ) (q : ℕ) (sets : List ℕ) : Type 0 where
 pub record Child (t : List ℕ) (q p : ℕ) : Type 0 where
   pub within : p < planCount t
   pub child : T (isChild t q p)
-
--- what the move of plan p reads of its own
-pub record Own (t s w names sets : List ℕ) (p : ℕ) : Type 0 where
-  pub small : p < 256
-  pub table-room : 8 * p + 16 ≤ length t
-  pub states-room : p < length s
-  pub words-room : 4 * p + 4 ≤ length w
-  pub names-room : p < length names
-  pub sets-room : p * 9 + 9 ≤ length sets
-  pub collected : getD names p 0 ≡ setOf t p (λ c. named (entry t c))
-  pub brood : Brood t s p sets

@@ -1,5 +1,6 @@
 -- What the contracts of this crate speak of beside document 01's definitions.
 pub mod Brood
+pub mod Live
 pub mod Scene
 pub mod HandedIn
 pub mod Calls

@@ -1,7 +1,7 @@
 // One synchronous step and the run to rest: checks 10 to 12 of document 01, the move of one plan, and the loops above it.
 // A step costs O(n) for n plans; nothing is allocated. Assumes nothing.
 ghost use mathlib.Core.Path.{_≡_};
-ghost use mathlib.Core.Bool.{_||_};
+ghost use mathlib.Core.Bool.{cond, _&&_, _||_};
 ghost use mathlib.Core.List.{List, [], _∷_};
 ghost use Prim.Native.Nat.{ℕ, _+_, _*_, _<_, _≤_};
 ghost use lib.ListN.{length, getD, take};
@@ -10,21 +10,23 @@ ghost use Rattle.rules.specs.Lists.{all, same};
 ghost use Rattle.rules.specs.States.{code, stateAt, oneOf, is, inSelection, inExecution, ended};
 ghost use Rattle.rules.specs.Table.{planCount, parent, entry, named, retryAborted, children};
 ghost use Rattle.rules.specs.Table.{rank as Table·rank};
-ghost use Rattle.rules.specs.Step.{moveOn, cutOff, move, none, ordersOf, tooManyLost, childrenComplete, firstNotDone, gateOpen, mayActivate, orders, moveOf, ordersIf, newState, step, done};
+ghost use Rattle.rules.specs.Step.{moveOn, cutOff, none, ordersOf, tooManyLost, childrenComplete, firstNotDone, gateOpen, mayActivate, orders, ordersIf, newState, step, done};
 ghost use Rattle.rules.specs.HandedIn.{suits, badState};
 ghost use Rattle.rules.specs.Step.{chosen as Step·chosen};
-ghost use Rattle.children.specs.Sets.{setOf, Rooted};
+ghost use Rattle.children.specs.Sets.{setOf, Rooted, Surveyed};
 ghost use Rattle.table.specs.Lowest.{Lowest};
 ghost use Rattle.step.specs.HandedIn.{breaksBy};
 ghost use Rattle.rules.specs.Words.{pickOf, pickAllowed, otherBits, satisfiedOnly, contradicts};
 ghost use Rattle.rules.specs.Rest.{leastRest, statesAt};
 ghost use Rattle.rules.specs.Answers.{wrongWord, badWord, lentCheck, stepAnswer, stepStates, restAnswer, runAnswer, runStates};
 ghost use Rattle.step.specs.Calls.{Counted, Tabled, Called, Ready};
-ghost use Rattle.rules.specs.declared.PlanState.the-variants.{Inactive, Activated, Aborted};
+ghost use Rattle.rules.specs.declared.PlanState.the-variants.{Inactive, Activated, Suspended, Aborted};
 ghost use Rattle.rules.specs.declared.PlanState.the-variants.{Ready as State·Ready};
-ghost use Rattle.step.specs.Brood.{Brood, Child, Own};
+ghost use Rattle.step.specs.Brood.{Brood, Child};
+ghost use Rattle.step.specs.Live.{Room, Under, ordersAt};
 ghost use Rattle.step.specs.ByParent.{byParent};
 ghost use Rattle.step.specs.Scene.{Scene};
+use children::resurvey;
 use children::survey;
 use rules::Body;
 use rules::Condition;
@@ -41,7 +43,7 @@ use rules::u16_at;
 use rules::word_at;
 use table::read_table;
 
-// The new state of a plan under a parent in execution, by its old state. `held` says that the parent is Suspended.
+// The move of one plan under a parent in execution, by its old state. `held` says that the parent is Suspended. It knows no tree.
 fn moved_on(
     held: bool,
     o: Orders,
@@ -135,31 +137,6 @@ fn cut_off(old: PlanState) -> PlanState
     }
 }
 
-// The move of one plan, by its parent's new state. It knows no tree.
-pub fn moved(
-    parent: PlanState,
-    o: Orders,
-    e: PlanEntry,
-    x: u32,
-    lost: bool,
-    complete: bool,
-    old: PlanState,
-) -> PlanState
-    ensures { λ r. ⌜ r ≡ move parent o e x lost complete old ⌝ }
-{
-    match parent {
-        PlanState::Inactive => PlanState::Inactive,
-        PlanState::Considered => PlanState::Inactive,
-        PlanState::Possible => PlanState::Inactive,
-        PlanState::Ready => PlanState::Inactive,
-        PlanState::Activated => moved_on(false, o, e, x, lost, complete, old),
-        PlanState::Suspended => moved_on(true, o, e, x, lost, complete, old),
-        PlanState::Completed => cut_off(old),
-        PlanState::Aborted => cut_off(old),
-        PlanState::Rejected => cut_off(old),
-    }
-}
-
 // No orders.
 fn no_orders() -> Orders
     ensures { λ r. ⌜ r ≡ none ⌝ }
@@ -244,14 +221,14 @@ fn may_activate(sets: &[u64], q: usize, again: bool) -> bool
     (running == 0) & !(again & (aborted != 0))
 }
 
-// What plan q, whose entry is e, orders its child of a rank; `chosen` is the rank that an any-order plan would activate.
-fn orders_to(e: PlanEntry, sets: &[u64], q: usize, rank: u32, chosen: u32) -> Orders
+// What plan q, whose entry is e, orders its child of a rank; `chosen` says that this is the child that an any-order plan would activate.
+fn orders_to(e: PlanEntry, sets: &[u64], q: usize, rank: u32, chosen: bool) -> Orders
     requires { ⌜ (q < 256) × (q * 9 + 9 ≤ length (now sets)) ⌝ }
-    ensures { λ r. ⌜ ((t s : List ℕ) (choice : ℕ → ℕ) (p : ℕ) → Brood t s q (now (sets .entry)) → Child t q p → e ≡ entry t q → rank ≡ Table·rank t p → eqb rank chosen ≡ eqb p (choice q) → r ≡ orders t s choice q p) ⌝ }
+    ensures { λ r. ⌜ ((t s : List ℕ) (choice : ℕ → ℕ) (p : ℕ) → Brood t s q (now (sets .entry)) → Child t q p → e ≡ entry t q → rank ≡ Table·rank t p → chosen ≡ eqb p (choice q) → r ≡ orders t s choice q p) ⌝ }
 {
     let again = e.retries_aborted();
     let is_next = rank == first_not_done(sets, q, again);
-    let is_chosen = may_activate(sets, q, again) & (rank == chosen);
+    let is_chosen = may_activate(sets, q, again) & chosen;
     orders_by(e.body_kind(), again, is_next, gate_open(sets, q), is_chosen)
 }
 
@@ -270,7 +247,13 @@ fn children_complete(e: PlanEntry, names: u64, sets: &[u64], p: usize) -> bool
     ensures { λ r. ⌜ ((t s : List ℕ) → Brood t s p (now (sets .entry)) → e ≡ entry t p → names ≡ setOf t p (λ c. named (entry t c)) → r ≡ childrenComplete t s p) ⌝ }
 {
     let completed = in_state(sets, p, PlanState::Completed);
-    e.wait_for(names & completed) & (!e.waits_for_optional() | all_ended(sets, p))
+    if !e.wait_for(names & completed) {
+        return false;
+    }
+    if !e.waits_for_optional() {
+        return true;
+    }
+    all_ended(sets, p)
 }
 
 // Whether all children of plan p are ended.
@@ -306,6 +289,12 @@ fn is_activated(state: PlanState) -> bool
     state.to_byte() == PlanState::ACTIVATED
 }
 
+fn is_suspended(state: PlanState) -> bool
+    ensures { λ r. ⌜ r ≡ is Suspended state ⌝ }
+{
+    state.to_byte() == PlanState::SUSPENDED
+}
+
 // The pick of an input word.
 pub fn pick_of(x: u32) -> u32
     ensures is { λ r. ⌜ r ≡ pickOf x ⌝ }
@@ -330,10 +319,10 @@ fn orders_if(
     sets: &[u64],
     q: usize,
     rank: u32,
-    chosen: u32,
+    chosen: bool,
 ) -> Orders
     requires { ⌜ (q < 256) × (q * 9 + 9 ≤ length (now sets)) ⌝ }
-    ensures { λ r. ⌜ ((t s w : List ℕ) (choice : ℕ → ℕ) (p : ℕ) → Brood t s q (now (sets .entry)) → Child t q p → e ≡ entry t q → rank ≡ Table·rank t p → eqb rank chosen ≡ eqb p (choice q) → r ≡ ordersIf t s w choice before after q p) ⌝ }
+    ensures { λ r. ⌜ ((t s w : List ℕ) (choice : ℕ → ℕ) (p : ℕ) → Brood t s q (now (sets .entry)) → Child t q p → e ≡ entry t q → rank ≡ Table·rank t p → chosen ≡ eqb p (choice q) → r ≡ ordersIf t s w choice before after q p) ⌝ }
 {
     if is_activated(before) & is_activated(after) {
         return orders_to(e, sets, q, rank, chosen);
@@ -341,30 +330,82 @@ fn orders_if(
     no_orders()
 }
 
-// The new state of plan p, given its parent's new state and what its parent orders.
-fn next_under(
+// What plan p in a state is ordered to do, given its parent's states before and after. The root is ordered as by a parent that stays
+// Activated; one whose state takes no orders is given none, since nothing is worked out for it.
+fn orders_for(
     table: &[u8],
-    names: &[u64],
     sets: &[u64],
-    old: &[u8],
-    words: &[u8],
     p: usize,
-    parent: PlanState,
-    o: Orders,
-) -> PlanState
-    requires { ⌜ Own (now table) (now old) (now words) (now names) (now sets) p ⌝ }
-    ensures { λ r. ⌜ ((choice : ℕ → ℕ) → r ≡ moveOf (now (table .entry)) (now (old .entry)) (now (words .entry)) choice parent o p) ⌝ }
+    q: usize,
+    rank: u32,
+    state: PlanState,
+    before: PlanState,
+    after: PlanState,
+    chosen: bool,
+) -> Orders
+    requires { ⌜ Room (now table) (now sets) q ⌝ }
+    ensures { λ r. ⌜ ((s w : List ℕ) (choice : ℕ → ℕ) → (0 < p → Under (now (table .entry)) s (now (sets .entry)) q p rank) → (0 < p → chosen ≡ eqb p (choice q)) → r ≡ cond (eqb p 0 || oneOf (Inactive ∷ State·Ready ∷ Aborted ∷ []) state) (ordersAt (now (table .entry)) s w choice before after q p) none) ⌝ }
 {
-    let e = entry_at(table, p);
-    let x = word_at(words, p);
-    let state = PlanState::from_byte(old[p]);
-    // only a plan in execution looks at its children
-    if !is_executing(state) {
-        return moved(parent, o, e, x, false, false, state);
+    if p == 0 {
+        return Orders {
+            considers: true,
+            activates: true,
+            retries: false,
+        };
     }
-    let lost = too_many_lost(e, names[p], sets, p);
-    let complete = children_complete(e, names[p], sets, p);
-    moved(parent, o, e, x, lost, complete, state)
+    if !takes_orders(state) {
+        return no_orders();
+    }
+    orders_if(before, after, entry_at(table, q), sets, q, rank, chosen)
+}
+
+// Whether too many children are lost, where that counts: a plan that is not in execution does not look at its children.
+fn lost_if(executing: bool, e: PlanEntry, names: u64, sets: &[u64], p: usize) -> bool
+    requires { ⌜ (p < 256) × (p * 9 + 9 ≤ length (now sets)) ⌝ }
+    ensures { λ r. ⌜ ((t s : List ℕ) → Brood t s p (now (sets .entry)) → e ≡ entry t p → names ≡ setOf t p (λ c. named (entry t c)) → r ≡ (executing && tooManyLost t s p)) ⌝ }
+{
+    if !executing {
+        return false;
+    }
+    too_many_lost(e, names, sets, p)
+}
+
+// Whether the children let it complete, where that counts.
+fn complete_if(executing: bool, e: PlanEntry, names: u64, sets: &[u64], p: usize) -> bool
+    requires { ⌜ (p < 256) × (p * 9 + 9 ≤ length (now sets)) ⌝ }
+    ensures { λ r. ⌜ ((t s : List ℕ) → Brood t s p (now (sets .entry)) → e ≡ entry t p → names ≡ setOf t p (λ c. named (entry t c)) → r ≡ (executing && childrenComplete t s p)) ⌝ }
+{
+    if !executing {
+        return false;
+    }
+    children_complete(e, names, sets, p)
+}
+
+// The new state of plan p under a parent in execution: of the plan its rank, its named children, its word and its old state; of its
+// parent q the states before and after. Values and not slices: this is called for every plan in motion, and a slice goes through memory.
+fn next_live(
+    table: &[u8],
+    sets: &[u64],
+    p: usize,
+    q: usize,
+    rank: u32,
+    names: u64,
+    x: u32,
+    state: PlanState,
+    before: PlanState,
+    after: PlanState,
+    chosen: bool,
+) -> PlanState
+    requires own { ⌜ Room (now table) (now sets) p ⌝ }
+    requires parent { ⌜ Room (now table) (now sets) q ⌝ }
+    ensures { λ r. ⌜ ((s w : List ℕ) (choice : ℕ → ℕ) → Brood (now (table .entry)) s p (now (sets .entry)) → names ≡ setOf (now (table .entry)) p (λ c. named (entry (now (table .entry)) c)) → (0 < p → Under (now (table .entry)) s (now (sets .entry)) q p rank) → (0 < p → chosen ≡ eqb p (choice q)) → r ≡ moveOn (is Suspended after) (ordersAt (now (table .entry)) s w choice before after q p) (entry (now (table .entry)) p) x (tooManyLost (now (table .entry)) s p) (childrenComplete (now (table .entry)) s p) state) ⌝ }
+{
+    let o = orders_for(table, sets, p, q, rank, state, before, after, chosen);
+    let e = entry_at(table, p);
+    let executing = is_executing(state);
+    let lost = lost_if(executing, e, names, sets, p);
+    let complete = complete_if(executing, e, names, sets, p);
+    moved_on(is_suspended(after), o, e, x, lost, complete, state)
 }
 
 // The new state of plan 0: as under a parent that stays Activated, considers it and activates it.
@@ -379,12 +420,21 @@ pub fn next_root(
     requires { ⌜ Scene (now table) (now old) (now words) (now ranks) (now names) (now sets) ⌝ }
     ensures { λ r. ⌜ ((choice : ℕ → ℕ) (new : List ℕ) → r ≡ newState (now (table .entry)) (now (old .entry)) (now (words .entry)) choice new 0) ⌝ }
 {
-    let o = Orders {
-        considers: true,
-        activates: true,
-        retries: false,
-    };
-    next_under(table, names, sets, old, words, 0, PlanState::Activated, o)
+    let state = PlanState::from_byte(old[0]);
+    let stays = PlanState::Activated;
+    next_live(
+        table,
+        sets,
+        0,
+        0,
+        0,
+        names[0],
+        word_at(words, 0),
+        state,
+        stays,
+        stays,
+        false,
+    )
 }
 
 // Whether a plan has not begun: it is Inactive or in selection.
@@ -394,27 +444,28 @@ fn is_dormant(state: PlanState) -> bool
     state.to_byte() < PlanState::ACTIVATED
 }
 
-// What a child's new state is by its parent's alone, or that it is open.
+// What a child's new state is without a look at the tree, or that it is open.
 pub enum ByParent {
     Settled(PlanState),
     Open,
 }
 
-// The new state of a child under a parent that has not begun or has ended. Most plans of a tree stand so: callers ask this first.
+// The new state of a child under a parent that has not begun or has ended, and of one that is Completed or Rejected, which nothing but
+// such a parent changes. Most plans of a tree stand so: this is asked first.
 pub fn by_parent(after: PlanState, old: PlanState) -> ByParent
     ensures { λ r. ⌜ r ≡ byParent after old ⌝ }
 {
     if is_dormant(after) {
         return ByParent::Settled(PlanState::Inactive);
     }
-    if after.is_ended() {
+    if after.is_ended() | is_done(true, old) {
         return ByParent::Settled(cut_off(old));
     }
     ByParent::Open
 }
 
-// The new state of plan p, a child, where `new` has the new states of the plans before it; `chosen` is the rank of the child that its
-// parent would activate if it is any-order.
+// The new state of plan p, a child, where `new` has the new states of the plans before it; `chosen` says that its parent would activate
+// it if it is any-order.
 pub fn next_child(
     table: &[u8],
     ranks: &[u8],
@@ -424,51 +475,34 @@ pub fn next_child(
     words: &[u8],
     new: &[u8],
     p: usize,
-    chosen: u32,
+    chosen: bool,
 ) -> PlanState
     requires scene { ⌜ Scene (now table) (now old) (now words) (now ranks) (now names) (now sets) ⌝ }
     requires plan { ⌜ (0 < p) × (p < planCount (now table)) × (p ≤ length (now new)) ⌝ }
-    ensures { λ r. ⌜ ((choice : ℕ → ℕ) → eqb (Table·rank (now (table .entry)) p) chosen ≡ eqb p (choice (parent (now (table .entry)) p)) → r ≡ newState (now (table .entry)) (now (old .entry)) (now (words .entry)) choice (now (new .entry)) p) ⌝ }
+    ensures { λ r. ⌜ ((choice : ℕ → ℕ) → chosen ≡ eqb p (choice (parent (now (table .entry)) p)) → r ≡ newState (now (table .entry)) (now (old .entry)) (now (words .entry)) choice (now (new .entry)) p) ⌝ }
 {
     let q = parent_at(table, p);
     let after = PlanState::from_byte(new[q]);
-    match by_parent(after, PlanState::from_byte(old[p])) {
-        ByParent::Settled(state) => state,
-        ByParent::Open => next_live(table, ranks, names, sets, old, words, p, q, after, chosen),
+    let state = PlanState::from_byte(old[p]);
+    match by_parent(after, state) {
+        ByParent::Settled(next) => next,
+        ByParent::Open => {
+            let before = PlanState::from_byte(old[q]);
+            next_live(
+                table,
+                sets,
+                p,
+                q,
+                wide(ranks[p]),
+                names[p],
+                word_at(words, p),
+                state,
+                before,
+                after,
+                chosen,
+            )
+        }
     }
-}
-
-// The new state of plan p, whose parent q has the new state `after`.
-fn next_live(
-    table: &[u8],
-    ranks: &[u8],
-    names: &[u64],
-    sets: &[u64],
-    old: &[u8],
-    words: &[u8],
-    p: usize,
-    q: usize,
-    after: PlanState,
-    chosen: u32,
-) -> PlanState
-    requires scene { ⌜ Scene (now table) (now old) (now words) (now ranks) (now names) (now sets) ⌝ }
-    requires plan { ⌜ (0 < p) × (p < planCount (now table)) × (q ≡ parent (now table) p) ⌝ }
-    ensures { λ r. ⌜ ((choice : ℕ → ℕ) → eqb (Table·rank (now (table .entry)) p) chosen ≡ eqb p (choice q) → r ≡ moveOf (now (table .entry)) (now (old .entry)) (now (words .entry)) choice after (ordersIf (now (table .entry)) (now (old .entry)) (now (words .entry)) choice (stateAt (now (old .entry)) q) after q p) p) ⌝ }
-{
-    let before = PlanState::from_byte(old[q]);
-    if !takes_orders(PlanState::from_byte(old[p])) {
-        return next_under(table, names, sets, old, words, p, after, no_orders());
-    }
-    let o = orders_if(
-        before,
-        after,
-        entry_at(table, q),
-        sets,
-        q,
-        wide(ranks[p]),
-        chosen,
-    );
-    next_under(table, names, sets, old, words, p, after, o)
 }
 
 // A byte as a rank: named, so that a reader of it has its bound.
@@ -496,7 +530,7 @@ fn advance(
     new[0] = next_root(table, ranks, names, sets, old, words).to_byte();
     for p in 1..n {
         let q = parent_at(table, p);
-        let chosen = chosen_rank(sets, q, pick_of(word_at(words, q)));
+        let chosen = wide(ranks[p]) == chosen_rank(sets, q, pick_of(word_at(words, q)));
         new[p] = next_child(table, ranks, names, sets, old, words, new, p, chosen).to_byte();
     }
 }
@@ -690,25 +724,6 @@ fn check_call(
     }
 }
 
-// The new states after one step, in `new`; `sets` is work space.
-fn look_ahead(
-    table: &[u8],
-    ranks: &[u8],
-    names: &[u64],
-    states: &[u8],
-    words: &[u8],
-    sets: &mut [u64],
-    new: &mut [u8],
-)
-    requires ready { ⌜ Ready (now table) (now states) (now words) (now ranks) (now names) ⌝ }
-    requires room { ⌜ (2304 ≤ length (now sets)) × (256 ≤ length (now new)) ⌝ }
-    ensures { λ _. ⌜ take (planCount (now (table .entry))) (now (new .exit)) ≡ step (now (table .entry)) (now (states .entry)) (now (words .entry)) ⌝ }
-{
-    let n = u16_at(table, 5) as usize;
-    survey(table, n, ranks, states, sets);
-    advance(table, n, ranks, names, sets, states, words, new);
-}
-
 // Copies the new states over the states.
 fn take_over(new: &[u8], states: &mut [u8])
     requires { ⌜ length (now states) ≤ length (now new) ⌝ }
@@ -753,33 +768,68 @@ pub fn step(table: &[u8], states: &mut [u8], words: &[u8]) -> Outcome
     }
 }
 
-// One step over states that have passed the checks.
+// One step over states that have passed the checks. All of the work space is cleared first: a small tree does not pay for a large one.
 fn step_over(table: &[u8], ranks: &[u8], names: &[u64], states: &mut [u8], words: &[u8])
     requires { ⌜ Ready (now table) (now states) (now words) (now ranks) (now names) ⌝ }
     ensures { λ _. ⌜ now (states .exit) ≡ step (now (table .entry)) (now (states .entry)) (now (words .entry)) ⌝ }
 {
+    let n = states.len();
+    if n <= 16 {
+        let mut sets = [0u64; 144];
+        let mut new = [0u8; 16];
+        step_within(table, ranks, names, states, words, &mut sets, &mut new);
+        return;
+    }
+    if n <= 64 {
+        let mut sets = [0u64; 576];
+        let mut new = [0u8; 64];
+        step_within(table, ranks, names, states, words, &mut sets, &mut new);
+        return;
+    }
     let mut sets = [0u64; 2304];
     let mut new = [0u8; 256];
-    look_ahead(table, ranks, names, states, words, &mut sets, &mut new);
-    take_over(&new, states);
+    step_within(table, ranks, names, states, words, &mut sets, &mut new);
 }
 
-// The new states after one step, in `new`, and whether they are the states.
+// The same within work space that has room for every plan, and whose words are 0.
+fn step_within(
+    table: &[u8],
+    ranks: &[u8],
+    names: &[u64],
+    states: &mut [u8],
+    words: &[u8],
+    sets: &mut [u64],
+    new: &mut [u8],
+)
+    requires ready { ⌜ Ready (now table) (now states) (now words) (now ranks) (now names) ⌝ }
+    requires room { ⌜ (length (now states) * 9 ≤ length (now sets)) × (length (now states) ≤ length (now new)) ⌝ }
+    requires empty { ⌜ ((i : ℕ) → i < length (now states) * 9 → getD (now sets) i 0 ≡ 0) ⌝ }
+    ensures { λ _. ⌜ now (states .exit) ≡ step (now (table .entry)) (now (states .entry)) (now (words .entry)) ⌝ }
+{
+    let n = states.len();
+    survey(table, n, ranks, states, sets);
+    advance(table, n, ranks, names, sets, states, words, new);
+    take_over(new, states);
+}
+
+// The new states after one step, in `new`, and whether they are the states; `sets` has the words of the states.
 fn is_settled(
     table: &[u8],
     ranks: &[u8],
     names: &[u64],
     states: &[u8],
     words: &[u8],
-    sets: &mut [u64],
+    sets: &[u64],
     new: &mut [u8],
 ) -> bool
     requires ready { ⌜ Ready (now table) (now states) (now words) (now ranks) (now names) ⌝ }
-    requires room { ⌜ (2304 ≤ length (now sets)) × (256 ≤ length (now new)) ⌝ }
-    ensures next { λ _. ⌜ take (planCount (now (table .entry))) (now (new .exit)) ≡ step (now (table .entry)) (now (states .entry)) (now (words .entry)) ⌝ }
+    requires room { ⌜ (length (now states) * 9 ≤ length (now sets)) × (length (now states) ≤ length (now new)) ⌝ }
+    requires surveyed { ⌜ Surveyed (now table) (now states) (length (now states)) (now sets) ⌝ }
+    ensures next { λ _. ⌜ take (length (now (states .entry))) (now (new .exit)) ≡ step (now (table .entry)) (now (states .entry)) (now (words .entry)) ⌝ }
     ensures same { λ r. ⌜ r ≡ same (step (now (table .entry)) (now (states .entry)) (now (words .entry))) (now (states .entry)) ⌝ }
 {
-    look_ahead(table, ranks, names, states, words, sets, new);
+    let n = states.len();
+    advance(table, n, ranks, names, sets, states, words, new);
     unchanged(new, states)
 }
 
@@ -796,17 +846,20 @@ fn settle(
     ensures answer { λ r. ⌜ r ≡ restAnswer (now (table .entry)) (leastRest (now (table .entry)) (now (states .entry)) (now (words .entry)) budget) ⌝ }
     ensures left { λ _. ⌜ now (states .exit) ≡ statesAt (now (table .entry)) (now (states .entry)) (now (words .entry)) budget (leastRest (now (table .entry)) (now (states .entry)) (now (words .entry)) budget) ⌝ }
 {
+    let n = states.len();
     let mut sets = [0u64; 2304];
     let mut new = [0u8; 256];
+    survey(table, n, ranks, states, &mut sets);
     let mut k = 0u16;
     while k < budget {
-        if is_settled(table, ranks, names, states, words, &mut sets, &mut new) {
+        if is_settled(table, ranks, names, states, words, &sets, &mut new) {
             return Rest::Rested(k);
         }
+        resurvey(table, n, ranks, states, &new[..n], &mut sets);
         take_over(&new, states);
         k += 1;
     }
-    if is_settled(table, ranks, names, states, words, &mut sets, &mut new) {
+    if is_settled(table, ranks, names, states, words, &sets, &mut new) {
         return Rest::Rested(k);
     }
     Rest::Moving

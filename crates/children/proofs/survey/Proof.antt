@@ -1,11 +1,11 @@
 -- `survey` meets its contract: a turn at plan p adds p's bit to its parent's word for p's state. Assumes nothing.
 use mathlib.Core.Path.{_≡_, ap, _∙_}
-use Prim.Native.Nat.{ℕ, _-_, _*_, _^_, _<_}
+use Prim.Native.Nat.{ℕ, _-_, _^_, _<_}
 use native.Mathlib.Omega.{arith}
 use borrow.Author.Needs.{needs}
 use denote.Ref.{now}
 use Rattle.rules.specs.Bytes.{byteAt}
-use Rattle.children.proofs.Kin.{Surveying, SurveyTurn, survey-turn, surveyed-root, beyond-none, beyond-trans}
+use Rattle.children.proofs.Kin.{Surveying, SurveyTurn, survey-turn, surveyed-root, beyond-none}
 use Rattle.children.proofs.survey.Statement.{statement}
 use Rattle.children.proofs.survey.Tie as tie
 
@@ -17,30 +17,30 @@ abbrev μ-loop : tie.MeasureT-loop
 
 loop-holds : tie.Need-loop-holds Inv-loop μ-loop
 loop-holds c =
-    let start = c .before .before .before .before .before .before .before .before in
-    let cleared = c .before .before .clear .ensures in
+    let args = c .before .before .before .before .args in
+    let pre = c .before .before .before .before .pre in
     record {
       started = omega arith;
-      within = start .pre .1 .0 .some;
-      room = omega (arith, cleared .1 .long);
+      within = pre .1 .0 .some;
+      room = pre .1 .1 .1 .0 .2;
       rest = beyond-none _ _;
-      word = surveyed-root _ (now (start .args .states)) _ (c .before .before .clear .last .0) (cleared .0);
+      word = surveyed-root (now (args .table)) (now (args .states)) (args .n) (now (args .sets)) (pre .1 .1 .1 .1);
     }
 
 turn-at :
     (c : tie.After-bit-if Inv-loop μ-loop)
     → SurveyTurn
-    (now (c .before .before .before .before .before .before .before .before .before .before .before .before .before .before .before .args .table))
-    (now (c .before .before .before .before .before .before .before .before .before .before .before .before .before .before .before .args .states))
-    (c .before .before .before .before .before .before .before .before .before .before .before .before .before .before .before .args .n)
-    (c .before .before .before .before .before .before .before .before .before .clear .last .0)
+    (now (c .before .before .before .before .before .before .before .before .before .before .before .args .table))
+    (now (c .before .before .before .before .before .before .before .before .before .before .before .args .states))
+    (c .before .before .before .before .before .before .before .before .before .before .before .args .n)
+    (now (c .before .before .before .before .before .before .before .before .before .before .before .args .sets))
     (c .before .before .before .before .before .before .loop .p)
     (c .before .before .before .before .before .before .loop .sets)
     (c .before .before .before .before .parent-at .result)
     (c .before .before .wide .result)
     (c .bit-if .result)
 turn-at c =
-    let pre = c .before .before .before .before .before .before .before .before .before .before .before .before .before .before .before .pre in
+    let pre = c .before .before .before .before .before .before .before .before .before .before .before .pre in
     let inside = c .before .before .before .before .before .loop-test .taken in
     let state = c .before .before .wide .ensures in
     survey-turn _ _ _ _ (pre .0) _ _ (c .before .before .before .before .before .before .loop .inv) inside (pre .1 .0 .narrow _ inside) _ _ _ (c .before .before .before .before .parent-at .ensures) state
@@ -48,25 +48,21 @@ turn-at c =
     (c .bit-if .ensures ∙ omega (arith, ap (λ (r : ℕ). 2 ^ r) (pre .1 .0 .ranked _ inside)))
 
 above : (c : tie.After-parent-at Inv-loop μ-loop) → c .parent-at .result < c .before .before .loop .p
-above c = omega (arith, c .before .before .before .before .before .before .before .before .before .before .before .pre .0 .down _ (c .before .before .loop .inv .started) (c .before .loop-test .taken), c .parent-at .ensures)
+above c = omega (arith, c .before .before .before .before .before .before .before .pre .0 .down _ (c .before .before .loop .inv .started) (c .before .loop-test .taken), c .parent-at .ensures)
 
-code : (c : tie.After-parent-at Inv-loop μ-loop) → byteAt (now (c .before .before .before .before .before .before .before .before .before .before .before .args .states)) (c .before .before .loop .p) < 9
-code c = c .before .before .before .before .before .before .before .before .before .before .before .pre .1 .1 .0 _ (c .before .loop-test .taken)
+code : (c : tie.After-parent-at Inv-loop μ-loop) → byteAt (now (c .before .before .before .before .before .before .before .args .states)) (c .before .before .loop .p) < 9
+code c = c .before .before .before .before .before .before .before .pre .1 .1 .0 _ (c .before .loop-test .taken)
 
 bit-if-requires : tie.Need-bit-if-requires Inv-loop μ-loop
 bit-if-requires c κs =
-    let pre = c .before .before .before .before .before .before .before .before .before .before .before .before .before .before .pre in
+    let narrow = c .before .before .before .before .before .before .before .before .before .before .pre .1 .0 in
     let inside = c .before .before .before .before .loop-test .taken in
-    rw (pre .1 .0 .ranked _ inside) (pre .1 .0 .narrow _ inside)
+    rw (narrow .ranked _ inside) (narrow .narrow _ inside)
 
 returns : tie.Need-returns Inv-loop μ-loop
 returns c =
-    let start = c .before .before .before .before .before .before .before .before .before .before in
-    let n = start .args .n in
-    let end : c .before .loop .p ≡ n = omega arith in (
-      record { word = rw end at (c .before .loop .inv .word) },
-      beyond-trans (n * 9) _ _ _ (c .before .before .before .before .clear .ensures .1) (c .before .loop .inv .rest),
-    )
+    let end : c .before .loop .p ≡ c .before .before .before .before .before .before .args .n = omega arith in
+    (record { word = rw end at (c .before .loop .inv .word) }, c .before .loop .inv .rest)
 
 pub survey-spec : {M : Type 1} → statement M
 survey-spec =
@@ -74,8 +70,6 @@ survey-spec =
     (tie.spec
     Inv-loop
     μ-loop
-    (λ c. omega arith)
-    (λ c κs. omega arith)
     loop-holds
     (λ c κs. omega arith)
     (λ c. omega (arith, above c))
@@ -91,5 +85,5 @@ survey-spec =
     (λ c. omega arith)
     (λ c. omega arith)
     (λ c. turn-at (c .before) .next)
-    (λ c. c .before .loop .inv .rest .long ∙ c .before .before .before .before .clear .ensures .1 .long)
+    (λ c. c .before .loop .inv .rest .long)
     returns)

@@ -1,51 +1,55 @@
--- `choose` meets its contract: each plan, from the last down, may change its parent's rank. Assumes nothing.
-use mathlib.Core.Path.{_≡_, refl}
-use Prim.Native.Nat.{_-_, _≤_, _<_}
+-- `choose` meets its contract: a Ready plan may take the place of the child that is kept for its parent. Assumes nothing.
+use mathlib.Core.Path.{_∙_}
+use Prim.Native.Nat.{_-_}
 use native.Mathlib.Omega.{arith}
-use borrow.Author.Needs.{needs}
-use lib.ListN.{length, length-set}
-use Rattle.record.specs.Steps.{preferred}
-use Rattle.record.proofs.Chosen.{Passed, none-passed, one-turn, all-passed}
+use denote.Ref.{now}
+use lib.ListN.{set, length-set}
+use lib.Seq.{getD-set-same}
+use Rattle.record.proofs.Chosen.{Choosing, ChoiceTurn, choosing-root, choosing-past, choice-turn, all-chosen}
 use Rattle.record.proofs.choose.Statement.{statement}
 use Rattle.record.proofs.choose.Tie as tie
 
 abbrev Inv-loop : tie.InvT-loop
-Inv-loop table n ranks old shown chosen₀ p₀ chosen p =
-    (0 < p) × (p ≤ n) × (length chosen ≡ length chosen₀) × Passed table old shown n p chosen
+Inv-loop table n old shown chosen₀ p₀ chosen p = Choosing table old shown n chosen₀ p chosen
 
 abbrev μ-loop : tie.MeasureT-loop
-μ-loop table n ranks old shown chosen₀ p₀ chosen p = p
+μ-loop table n old shown chosen₀ p₀ chosen p = n - p
 
 loop-holds : tie.Need-loop-holds Inv-loop μ-loop
 loop-holds c =
-    let pre = c .before .before .before .before .before .pre in
-    (pre .0 .2 .some, omega arith, refl, none-passed _ _ _ _ _ (pre .1 .1))
-
--- the parent comes before
-above : (c : tie.After-parent-at Inv-loop μ-loop) → c .parent-at .result < c .before .before .loop .p - 1
-above c =
-    let start = c .before .before .before .before .before .before .before .before in
-    let p = c .before .before .loop .p - 1 in
-    omega
-    (arith, c .parent-at .ensures, start .pre .0 .1 .down p (omega (arith, c .before .loop-test .taken)) (omega (arith, c .before .before .loop .inv .1, c .before .loop-test .taken)))
+    let start = c .before .before .before .before in
+    choosing-root _ _ _ _ _ (start .pre .0 .0) (getD-set-same (now (start .args .chosen)) 0 0 0 (omega arith))
 
 loop-again : tie.Need-loop-again Inv-loop μ-loop
 loop-again c =
-    let pre = c .before .before .before .before .before .before .before .before .before .before .before .before .before .pre in
-    let at = c .before .before .before .before .before .before .before .loop in
-    let more = c .before .before .before .before .before .before .loop-test .taken in (
-      omega (arith, more),
-      omega (arith, at .inv .1),
-      simp length-set (at .inv .2),
-      one-turn _ _ _ _ _ _ _ _ _ (pre .0 .1) (pre .0 .2) more (at .inv .1) (omega (arith, at .inv .2, pre .1 .0 .3))
-          (c .before .before .before .before .before .parent-at .ensures) (at .inv .3) (c .preferred .ensures),
-    )
+    let start = c .before .before .before .before .before .before .before .before in
+    choosing-past _ _ _ _ _ (start .pre .0 .2) _ _ (simp length-set (start .pre .1 .2)) (c .before .before .before .loop .inv)
+    (c .before .before .loop-test .taken)
+    (c .if1 .taken)
+
+turn-at :
+    (c : tie.After-parent-at Inv-loop μ-loop)
+    → ChoiceTurn
+    (now (c .before .before .before .before .before .before .before .before .before .args .table))
+    (now (c .before .before .before .before .before .before .before .before .before .args .old))
+    (now (c .before .before .before .before .before .before .before .before .before .args .shown))
+    (c .before .before .before .before .before .before .before .before .before .args .n)
+    (set (now (c .before .before .before .before .before .before .before .before .before .args .chosen)) 0 0)
+    (c .before .before .before .before .loop .p)
+    (c .before .before .before .before .loop .chosen)
+    (c .parent-at .result)
+turn-at c =
+    let start = c .before .before .before .before .before .before .before .before .before in
+    choice-turn _ _ _ _ _ (start .pre .0 .2) _ _ (simp length-set (start .pre .1 .2)) (c .before .before .before .before .loop .inv)
+    (c .before .before .before .loop-test .taken)
+    (c .before .if1 .left)
+    _
+    (c .parent-at .ensures)
 
 returns : tie.Need-returns Inv-loop μ-loop
 returns c =
-    let pre = c .before .before .before .before .before .before .before .pre in
-    let end : c .before .loop .p ≡ 1 = omega (arith, c .before .loop .inv .0, c .loop-test .left) in
-    all-passed _ _ _ _ _ _ (pre .0 .0) (pre .0 .1) (pre .0 .2) (rw end at (c .before .loop .inv .3))
+    let pre = c .before .before .before .before .before .before .pre in
+    all-chosen _ _ _ _ _ _ _ (pre .0 .1) (pre .0 .2) (c .loop-test .left) (c .before .loop .inv)
 
 pub choose-spec : {M : Type 1} → statement M
 choose-spec =
@@ -53,16 +57,24 @@ choose-spec =
     (tie.spec
     Inv-loop
     μ-loop
-    loop-holds
     (λ c. omega arith)
-    (λ c κs. omega (arith, c .before .before .before .before .before .before .before .pre .0 .1 .room))
-    (λ c. omega (arith, c .before .before .before .before .before .before .before .before .before .pre .1 .0))
-    (λ c. omega (arith, c .before .before .before .before .before .before .before .before .before .before .pre .1 .0))
-    (λ c. omega (arith, above (c .before .before .before), c .before .before .before .before .before .before .before .before .before .before .before .pre .1 .0))
-    (λ c. omega (arith, c .before .before .before .before .before .before .before .before .before .before .before .before .pre .1 .0))
-    (λ c κs. search needs)
-    (λ c. omega (arith, above (c .before .before .before .before .before), c .before .before .before .before .before .before .before .before .before .before .before .before .before .pre .1 .0))
+    loop-holds
+    (λ c. omega (arith, length-set (now (c .before .before .before .before .before .before .args .chosen)) 0 0))
+    (λ c. omega arith)
+    (λ c. omega arith)
     (λ c. omega arith)
     loop-again
-    (λ c. c .before .loop .inv .2)
+    (λ c κs. omega arith)
+    (λ c. turn-at (c .before) .reads)
+    (λ c. omega (arith, turn-at (c .before) .low))
+    (λ c. omega (arith, turn-at (c .before .before) .low))
+    (λ c. omega arith)
+    (λ c. omega arith)
+    (λ c. turn-at (c .before .before .before) .keeps (c .if2 .taken))
+    (λ c. omega arith)
+    (λ c. turn-at (c .before .before .before) .reads)
+    (λ c. omega arith)
+    (λ c. omega arith)
+    (λ c. turn-at (c .before .before .before) .takes (c .if2 .left))
+    (λ c. c .before .loop .inv .long ∙ simp length-set)
     returns)

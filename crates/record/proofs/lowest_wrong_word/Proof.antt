@@ -1,11 +1,16 @@
--- `lowest_wrong_word` meets its contract: the words passed are right. Assumes nothing.
-use mathlib.Core.Path.{_≡_, sym, _∙_}
-use mathlib.Core.Bool.{false}
-use Prim.Native.Nat.{ℕ, _-_, _≤_, _<_}
+-- `lowest_wrong_word` meets its contract: where one is wrong, the words passed are right. Assumes nothing.
+use mathlib.Core.Path.{_≡_, refl, sym, _∙_}
+use mathlib.Core.Bool.{Bool, false}
+use Prim.Native.Nat.{ℕ, zero, suc, _-_, _≤_, _<_}
+use native.Mathlib.Decide.{decLt}
 use native.Mathlib.Omega.{arith}
 use borrow.Author.Count.{below-none, below-more}
+use borrow.Author.Needs.{needs}
+use borrow.Author.Tests.{not-true}
 use Rattle.rules.specs.Answers.{badRecordWord}
+use Rattle.rules.proofs.Tree.{or-left, or-right}
 use Rattle.table.proofs.Lowest.{stops-here, ends-here}
+use Rattle.record.specs.Steps.{anyBelow}
 use Rattle.record.proofs.lowest_wrong_word.Statement.{statement}
 use Rattle.record.proofs.lowest_wrong_word.Tie as tie
 
@@ -15,17 +20,35 @@ Inv-loop words n p₀ p = (p ≤ n) × ((k : ℕ) → k < p → badRecordWord wo
 abbrev μ-loop : tie.MeasureT-loop
 μ-loop words n p₀ p = n - p
 
+-- where no number below n passes, each one fails
+none-below : (f : ℕ → Bool) (n : ℕ) → anyBelow f n ≡ false → (k : ℕ) → k < n → f k ≡ false
+unfolding anyBelow
+none-below f zero e k l = absurd (omega arith)
+none-below f (suc n) e k l = go (decLt k n) (none-below f n (or-left (anyBelow f n) (f n) e) k)
+  where
+    go : Dec (k < n) → (k < n → f k ≡ false) → f k ≡ false
+    go (yes h) before = before h
+    go (no h) before =
+        let last : k ≡ n = omega arith in
+        rw last (or-right (anyBelow f n) (f n) e)
+
 returns : tie.Need-returns Inv-loop μ-loop
 returns c =
+    ends-here _ _ _
+    (none-below _ _ (sym (c .before .any-wrong-word .ensures) ∙ not-true (c .before .any-wrong-word .result) (c .if1 .taken)))
+    refl
+
+returns-2 : tie.Need-returns-2 Inv-loop μ-loop
+returns-2 c =
     stops-here _ _ _ (c .before .before .before .loop .inv .1) (c .before .before .loop-test .taken)
-    (sym (c .before .wrong-word .ensures) ∙ c .if1 .taken)
+    (sym (c .before .wrong-word .ensures) ∙ c .if2 .taken)
 
 loop-again : tie.Need-loop-again Inv-loop μ-loop
 loop-again c =
-    (omega arith, below-more _ _ (c .before .before .before .loop .inv .1) (sym (c .before .wrong-word .ensures) ∙ c .if1 .left))
+    (omega arith, below-more _ _ (c .before .before .before .loop .inv .1) (sym (c .before .wrong-word .ensures) ∙ c .if2 .left))
 
-returns-2 : tie.Need-returns-2 Inv-loop μ-loop
-returns-2 c = ends-here _ _ _ (c .before .loop .inv .1) (omega arith)
+returns-3 : tie.Need-returns-3 Inv-loop μ-loop
+returns-3 c = ends-here _ _ _ (c .before .loop .inv .1) (omega arith)
 
 pub lowest-wrong-word-spec : {M : Type 1} → statement M
 lowest-wrong-word-spec =
@@ -33,10 +56,12 @@ lowest-wrong-word-spec =
     (tie.spec
     Inv-loop
     μ-loop
+    (λ c κs. search needs)
+    returns
     (λ c. (omega arith, below-none _))
     (λ c κs. omega arith)
-    returns
+    returns-2
     (λ c. omega arith)
     (λ c. omega arith)
     loop-again
-    returns-2)
+    returns-3)

@@ -26,86 +26,87 @@ abbrev μ-loop : tie.MeasureT-loop
 
 loop-holds : tie.Need-loop-holds Inv-loop μ-loop
 loop-holds c =
-    let start = c .before .before .before .before .before .before .before .before .before in
-    let t = now (start .args .table) in
-    let s = now (start .args .old) in
-    let w = now (start .args .words) in
-    let new = now (start .args .new) in (
+    let args = c .before .before .before .before .before .before .before .before .before .args in
+    let pre = c .before .before .before .before .before .before .before .before .before .pre in
+    let t = now (args .table) in
+    let s = now (args .old) in
+    let w = now (args .words) in
+    let new = now (args .new) in (
       omega arith,
-      omega (arith, start .pre .0 .some, start .pre .1 .0),
+      omega (arith, pre .0 .some, pre .1 .0),
       refl,
-      step-root t s w (picked t s w) new _ (omega (arith, start .pre .0 .some, start .pre .1))
+      step-root t s w (picked t s w) new _ (omega (arith, pre .0 .some, pre .1))
           (c .to-byte .ensures ∙ ap code (c .before .next-root .ensures (picked t s w) new)),
     )
 
 -- the parent comes before
 above : (c : tie.After-parent-at Inv-loop μ-loop) → c .parent-at .result < c .before .before .loop .p
 above c =
-    let start = c .before .before .before .before .before .before .before .before .before .before .before .before in
+    let pre = c .before .before .before .before .before .before .before .before .before .before .before .before .pre in
     let at = c .before .before .loop in
-    omega (arith, c .parent-at .ensures, start .pre .0 .down (at .p) (at .inv .0) (omega (arith, start .pre .1 .0)))
+    omega (arith, c .parent-at .ensures, pre .0 .down (at .p) (at .inv .0) (omega (arith, pre .1 .0)))
 
 -- the new states have room for every plan
 room : (c : tie.At-loop Inv-loop μ-loop) → c .before .before .before .before .before .before .before .before .before .before .args .n ≤ length (c .loop .new)
-room c =
-    let start = c .before .before .before .before .before .before .before .before .before .before in
-    omega (arith, start .pre .1 .1, c .loop .inv .2, length-set (now (start .args .new)) 0 (c .before .to-byte .result))
+room c = omega (arith, c .before .before .before .before .before .before .before .before .before .before .pre .1 .1, c .loop .inv .2, length-set (now (c .before .before .before .before .before .before .before .before .before .before .args .new)) 0 (c .before .to-byte .result))
 
 chosen-rank-requires : tie.Need-chosen-rank-requires Inv-loop μ-loop
 chosen-rank-requires c κs =
-    let scene = c .before .before .before .before .before .before .before .before .before .before .before .before .before .before .pre .0 in
-    let before = above (c .before .before) in (
-      omega (arith, before, scene .small, c .before .before .before .before .before .before .before .before .before .before .before .before .before .before .pre .1 .0),
-      omega (arith, before, scene .sets-room, c .before .before .before .before .before .before .before .before .before .before .before .before .before .before .pre .1 .0),
+    let pre = c .before .before .before .before .before .before .before .before .before .before .before .before .before .before .before .before .pre in
+    let before = above (c .before .before .before .before) in (
+      omega (arith, before, pre .0 .small, pre .1 .0),
+      omega (arith, before, pre .0 .sets-room, pre .1 .0),
       c .pick-of .ensures .1,
     )
 
 next-child-requires : tie.Need-next-child-requires Inv-loop μ-loop
 next-child-requires c κs =
-    let start = c .before .before .before .before .before .before .before .before .before .before .before .before .before .before .before .before in
-    let at = c .before .before .before .before .before .before .loop in (
-      start .pre .0,
-      (at .inv .0, omega (arith, start .pre .1 .0, c .before .before .before .before .before .loop-test .taken), omega (arith, room (c .before .before .before .before .before .before))),
+    let pre = c .before .before .before .before .before .before .before .before .before .before .before .before .before .before .before .before .before .before .pre in (
+      pre .0,
+      (c .before .before .before .before .before .before .before .before .loop .inv .0, omega (arith, pre .1 .0, c .before .before .before .before .before .before .before .loop-test .taken), omega (arith, room (c .before .before .before .before .before .before .before .before))),
     )
 
 loop-again : tie.Need-loop-again Inv-loop μ-loop
 loop-again c =
-    let start = c .before .before .before .before .before .before .before .before .before .before .before .before .before .before .before .before .before .before in
-    let t = now (start .args .table) in
-    let s = now (start .args .old) in
-    let w = now (start .args .words) in
-    let at = c .before .before .before .before .before .before .before .before .loop in
+    let args = c .before .before .before .before .before .before .before .before .before .before .before .before .before .before .before .before .before .before .before .before .args in
+    let pre = c .before .before .before .before .before .before .before .before .before .before .before .before .before .before .before .before .before .before .before .before .pre in
+    let t = now (args .table) in
+    let s = now (args .old) in
+    let w = now (args .words) in
+    let at = c .before .before .before .before .before .before .before .before .before .before .loop in
     let inv = at .inv in
     let p = at .p in
-    let inside : p < planCount t = omega (arith, start .pre .1 .0, c .before .before .before .before .before .before .before .loop-test .taken) in
-    let q = c .before .before .before .before .before .before .parent-at .result in
-    let is-parent = c .before .before .before .before .before .before .parent-at .ensures in
-    let brood = start .pre .0 .brood q (omega (arith, above (c .before .before .before .before .before .before))) in
+    let inside : p < planCount t = omega (arith, pre .1 .0, c .before .before .before .before .before .before .before .before .before .loop-test .taken) in
+    let q = c .before .before .before .before .before .before .before .before .parent-at .result in
+    let is-parent = c .before .before .before .before .before .before .before .before .parent-at .ensures in
+    let brood = pre .0 .brood q (omega (arith, above (c .before .before .before .before .before .before .before .before))) in
     let pick = sym (c .before .before .before .before .pick-of .ensures .0 ∙ ap pickOf (c .before .before .before .before .before .word-at .ensures)) in
+    let rank = c .before .before .before .before .before .before .wide .ensures ∙ pre .0 .ranked p inside in
     let chosen =
-    c .before .before .before .chosen-rank .ensures t s (λ k. pickOf (word w k)) p brood (child-of t q p (inv .0) inside is-parent) pick
+    ap (λ (k : ℕ). eqb k (c .before .before .before .chosen-rank .result)) rank
+    ∙ c .before .before .before .chosen-rank .ensures t s (λ k. pickOf (word w k)) p brood (child-of t q p (inv .0) inside is-parent) pick
     ∙ ap (λ (k : ℕ). eqb p (picked t s w k)) is-parent
     in (
       omega arith,
       omega arith,
       simp length-set (inv .2 ∙ simp length-set),
-      step-child t s w (picked t s w) (at .new) p _ (inv .0) (start .pre .0 .down p (inv .0) inside)
-          (omega (arith, inside, room (c .before .before .before .before .before .before .before .before), start .pre .1 .0))
+      step-child t s w (picked t s w) (at .new) p _ (inv .0) (pre .0 .down p (inv .0) inside)
+          (omega (arith, inside, room (c .before .before .before .before .before .before .before .before .before .before), pre .1 .0))
           (c .to-byte2 .ensures ∙ ap code (c .before .next-child .ensures (picked t s w) chosen))
           (inv .3),
     )
 
 returns : tie.Need-returns Inv-loop μ-loop
 returns c =
-    let start = c .before .before .before .before .before .before .before .before .before .before .before in
-    let t = now (start .args .table) in
-    let s = now (start .args .old) in
-    let w = now (start .args .words) in
+    let args = c .before .before .before .before .before .before .before .before .before .before .before .args in
+    let t = now (args .table) in
+    let s = now (args .old) in
+    let w = now (args .words) in
     let at = c .before .loop in
-    let end : at .p ≡ start .args .n = omega arith in
+    let end : at .p ≡ args .n = omega arith in
     ap (λ (k : ℕ). take k (at .new)) (sym end)
     ∙ at .inv .3
-    ∙ ap (λ (k : ℕ). stepFirst t s w (picked t s w) k) (end ∙ start .pre .1 .0)
+    ∙ ap (λ (k : ℕ). stepFirst t s w (picked t s w) k) (end ∙ c .before .before .before .before .before .before .before .before .before .before .before .pre .1 .0)
     ∙ whole-step t s w
 
 pub advance-spec : {M : Type 1} → statement M
@@ -119,13 +120,15 @@ advance-spec =
     (λ c. omega (arith, c .before .before .before .before .before .before .before .before .before .pre .0 .some, c .before .before .before .before .before .before .before .before .before .pre .1))
     loop-holds
     (λ c κs. omega (arith, c .before .before .before .before .before .before .before .before .before .before .before .pre .0 .long, c .before .before .before .before .before .before .before .before .before .before .before .pre .1 .0))
-    (λ c κs. omega (arith, above c, c .before .before .before .before .before .before .before .before .before .before .before .before .pre .0 .words-room, c .before .before .before .before .before .before .before .before .before .before .before .before .pre .1 .0))
+    (λ c. omega (arith, c .before .before .before .before .before .before .before .before .before .before .before .before .before .pre .0 .ranks-room, c .before .before .before .before .before .before .before .before .before .before .before .before .before .pre .1 .0, c .before .before .loop-test .taken))
+    (λ c κs. search needs)
+    (λ c κs. omega (arith, above (c .before .before), c .before .before .before .before .before .before .before .before .before .before .before .before .before .before .pre .0 .words-room, c .before .before .before .before .before .before .before .before .before .before .before .before .before .before .pre .1 .0))
     (λ c κs. search needs)
     chosen-rank-requires
     next-child-requires
     (λ c κs. search needs)
-    (λ c. omega (arith, room (c .before .before .before .before .before .before .before .before)))
-    (λ c. omega arith)
+    (λ c. omega (arith, room (c .before .before .before .before .before .before .before .before .before .before)))
+    (λ c. omega (arith, c .before .before .before .before .before .before .before .before .before .loop-test .taken, c .before .before .before .before .before .before .before .before .before .before .before .before .before .before .before .before .before .before .before .before .pre .0 .small, c .before .before .before .before .before .before .before .before .before .before .before .before .before .before .before .before .before .before .before .before .pre .1 .0))
     (λ c. omega arith)
     loop-again
     (λ c. c .before .loop .inv .2 ∙ simp length-set)

@@ -1,19 +1,31 @@
 -- `children_complete` meets its contract: the named children that are Completed, and whether all are ended. Assumes nothing.
-use mathlib.Core.Path.{ap₂, _∙_}
-use mathlib.Core.Bool.{Bool, _&&_, _||_, not}
+use mathlib.Core.Path.{refl, sym, _∙_}
 use borrow.Author.Needs.{needs}
+use borrow.Author.Tests.{not-true, not-false}
 use Rattle.rules.specs.declared.PlanState.the-variants.{Completed}
 use Rattle.step.proofs.Broods.{in-one, complete-is}
 use Rattle.step.proofs.children_complete.Statement.{statement}
 use Rattle.step.proofs.children_complete.Tie as tie
 
+-- too few of the named children are Completed
 returns : tie.Need-returns
 returns c t s brood ee en =
-    let completed = in-one brood Completed (c .before .before .before .in-state .ensures) in
-    ap₂ (λ (a b : Bool). a && (not b || c .all-ended .result))
-    (c .before .before .wait-for .ensures)
-    (c .before .waits-for-optional .ensures)
-    ∙ complete-is ee en completed (c .all-ended .ensures t s brood)
+    let completed = in-one brood Completed (c .before .before .in-state .ensures) in
+    rw (sym (c .before .wait-for .ensures) ∙ not-true _ (c .if1 .taken)) at (complete-is ee en completed refl)
+
+-- enough are, and the others do not count
+returns-2 : tie.Need-returns-2
+returns-2 c t s brood ee en =
+    let completed = in-one brood Completed (c .before .before .before .before .in-state .ensures) in
+    rw (sym (c .before .before .before .wait-for .ensures) ∙ not-false _ (c .before .before .if1 .left), sym (c .before .waits-for-optional .ensures) ∙ not-true _ (c .if2 .taken)) at
+    (complete-is ee en completed refl)
+
+-- enough are, and all must be ended
+returns-3 : tie.Need-returns-3
+returns-3 c t s brood ee en =
+    let completed = in-one brood Completed (c .before .before .before .before .before .in-state .ensures) in
+    rw (sym (c .before .before .before .before .wait-for .ensures) ∙ not-false _ (c .before .before .before .if1 .left), sym (c .before .before .waits-for-optional .ensures) ∙ not-false _ (c .before .if2 .left)) at
+    (complete-is ee en completed (c .all-ended .ensures t s brood))
 
 pub children-complete-spec : {M : Type 1} → statement M
 children-complete-spec =
@@ -21,6 +33,8 @@ children-complete-spec =
     (tie.spec
     (λ c κs. search needs)
     (λ c κs. search needs)
+    returns
     (λ c κs. search needs)
+    returns-2
     (λ c κs. search needs)
-    returns)
+    returns-3)

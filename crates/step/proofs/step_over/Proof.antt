@@ -1,21 +1,28 @@
--- `step_over` meets its contract: the new states, taken over. Assumes nothing.
-use mathlib.Core.Path.{sym, _∙_}
+-- `step_over` meets its contract: in each of the three work spaces. Assumes nothing.
+use Prim.Native.Nat.{ℕ}
 use native.Mathlib.Omega.{arith}
 use borrow.Author.Needs.{needs}
+use lib.ListN.{getD-replicate}
 use Rattle.rules.proofs.Tree.{passes, tree}
-use Rattle.step.proofs.Scenes.{part-of-all}
 use Rattle.step.proofs.step_over.Statement.{statement}
 use Rattle.step.proofs.step_over.Tie as tie
 
-take-over-requires : tie.Need-take-over-requires
-take-over-requires c κs =
-    let ready = c .before .before .before .before .before .before .before .before .before .before .before .before .before .pre in
-    omega (arith, ready .passes .long, tree _ (passes _ (ready .prepared .done)) .small)
+step-within-requires : tie.Need-step-within-requires
+step-within-requires c κs =
+    let few = c .before .before .before .if1 .taken in
+    (c .before .before .before .before .before .before .before .before .before .pre, ((omega (arith, few), omega (arith, few)), λ i l. getD-replicate {A = ℕ} 144 i 0 0 (omega (arith, few))))
 
-returns : tie.Need-returns
-returns c =
-    c .before .before .take-over .ensures
-    ∙ part-of-all _ _ _ _ (sym (c .before .before .before .before .before .before .before .before .before .before .before .before .before .before .before .before .pre .passes .long)) (c .before .before .before .before .before .before .before .look-ahead .ensures)
+step-within-requires-2 : tie.Need-step-within-requires-2
+step-within-requires-2 c κs =
+    let few = c .before .before .before .if2 .taken in
+    (c .before .before .before .before .before .before .before .before .before .before .pre, ((omega (arith, few), omega (arith, few)), λ i l. getD-replicate {A = ℕ} 576 i 0 0 (omega (arith, few))))
+
+step-within-requires-3 : tie.Need-step-within-requires-3
+step-within-requires-3 c κs =
+    let ready = c .before .before .before .before .before .before .before .before .before .before .pre in
+    let long = ready .passes .long in
+    let few = tree _ (passes _ (ready .prepared .done)) .small in
+    (ready, ((omega (arith, long, few), omega (arith, long, few)), λ i l. getD-replicate {A = ℕ} 2304 i 0 0 (omega (arith, long, few))))
 
 pub step-over-spec : {M : Type 1} → statement M
 step-over-spec =
@@ -23,8 +30,16 @@ step-over-spec =
     (tie.spec
     (λ c. search needs)
     (λ c. search needs)
-    (λ c κs. search needs)
+    step-within-requires
     (λ c. search needs)
-    take-over-requires
     (λ c. search needs)
-    returns)
+    (λ c. search needs)
+    (λ c. search needs)
+    step-within-requires-2
+    (λ c. search needs)
+    (λ c. search needs)
+    (λ c. search needs)
+    (λ c. search needs)
+    step-within-requires-3
+    (λ c. search needs)
+    (λ c. search needs))
