@@ -3,14 +3,14 @@
 use Prim.Native.Nat.{ℕ, zero, suc, _<_, _≤_}
 use native.Mathlib.Omega.{arith}
 use native.Mathlib.Decide.{ℕ-discrete}
-use mathlib.Core.Bool.{Bool, cond, not, _&&_}
-use mathlib.Core.Path.{_≡_, refl, sym, _∙_}
-use mathlib.Core.Logic.{_⊎_, inl, inr}
+use mathlib.Core.Bool.{Bool, true, false, cond, not, _&&_, true≢false}
+use mathlib.Core.Path.{_≡_, refl, sym, ap, _∙_}
+use mathlib.Core.Logic.{_⊎_, inl, inr, ⊎-elim}
 use mathlib.Core.List.{List, [], _∷_, List·Memᴰ, List·Memᴰ·head, List·Memᴰ·tail}
 use lib.ListN.{getD, length}
 use lib.Dec.{T, T-not, eqb, eqb→eq, eqb-refl, leb, leb→le, nleb→lt, lt→ltb}
 use borrow.Author.Tests.{ne-eqb}
-use Rattle.rules.specs.Lists.{some, first}
+use Rattle.rules.specs.Lists.{some, noPlan, first}
 use Rattle.rules.specs.States.{stateAt, is}
 use Rattle.rules.specs.Table.{entry, bodyOf, children, rank}
 use Rattle.rules.specs.Words.{pickAllowed}
@@ -20,7 +20,7 @@ use Rattle.rules.specs.declared.Body.the-variants.{Leaf, Sequential, Parallel, 
 use Rattle.rules.specs.declared.PlanState.the-variants.{Ready, Activated}
 use Rattle.demands.specs.Witness.{last, firstMarked, isAnyOrder, activatedChild, witness}
 use Rattle.demands.proofs.Tests.{both, left, right, decide, is-true, cond-by}
-use Rattle.demands.proofs.Lists.{Found, found-some, first-found, last-found, Sorted, first-le, last-ge}
+use Rattle.demands.proofs.Lists.{Found, found-some, first-found, first-or-none, last-found, Sorted, first-le, last-ge}
 use Rattle.demands.proofs.Children.{member-child, sorted-children, rank-small, at-rank}
 
 -- what stands at a place of a list, or the default
@@ -112,6 +112,24 @@ module _ (t s : List ℕ) (pick : ℕ → ℕ) (q : ℕ) where
       go c (inl m) =
           cond-by (ReadyChild t s q) (isReady s c) (λ r. record { member = m; passes = r }) (λ r. fallback)
       go c (inr e) = cond-by (ReadyChild t s q) (isReady s c) (λ r. rw e fallback) (λ r. fallback)
+
+  -- a plan that is not Ready is not chosen
+  pub not-chosen : (p : ℕ) → p < noPlan → isReady s p ≡ false → eqb p (chosen t s pick q) ≡ false
+  unfolding chosen
+  not-chosen p l unready = ne-eqb p _ (go (getD (children t q) (pick q) lowest))
+    where
+      unlike : (c : ℕ) → isReady s c ≡ true → p ≡ c → ⊥
+      unlike c r e = true≢false (sym r ∙ ap (isReady s) (sym e) ∙ unready)
+
+      none : p ≡ lowest → ⊥
+      none e = ⊎-elim (λ r. unlike lowest r e) (λ h. omega (arith, e, h)) (first-or-none (isReady s) (children t q))
+
+      go : (c : ℕ) → p ≡ cond (isReady s c) c lowest → ⊥
+      go c = by (isReady s c) refl
+        where
+          by : (b : Bool) → isReady s c ≡ b → p ≡ cond b c lowest → ⊥
+          by true r e = unlike c r e
+          by false r e = none e
 
   chosen-rank : (c : ℕ) → ReadyChild t s q c → pick q ≡ rank t c → chosen t s pick q ≡ c
   unfolding chosen

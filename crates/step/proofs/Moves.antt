@@ -5,12 +5,12 @@ use native.Mathlib.Numerals.{add-one}
 use mathlib.Core.Path.{_≡_, refl, sym, ap, _∙_}
 use mathlib.Core.Bool.{Bool, true, false, cond, _&&_, _||_, true≢false}
 use mathlib.Core.List.{List, [], _∷_, _++_}
-use lib.Dec.{eqb, ltb, eqb-refl}
+use lib.Dec.{ltb, eqb-refl}
 use lib.ListN.{length, take, set}
 use lib.Seq.{getD-take, take-suc-set}
 use Rattle.rules.specs.Bytes.{byteAt}
 use Rattle.rules.specs.States.{code, stateOf, stateAt, oneOf, is, inSelection, inExecution, ended}
-use Rattle.rules.specs.Table.{planCount, parent, entry, rank}
+use Rattle.rules.specs.Table.{planCount, parent, entry}
 use Rattle.rules.specs.Words.{word, pickOf}
 use Rattle.rules.specs.Step.{
   moveOn,
@@ -47,7 +47,7 @@ use Rattle.rules.specs.declared.PlanState.the-variants.{
 use Rattle.step.specs.declared.ByParent.the-variants.{Settled, Open}
 use Rattle.step.specs.ByParent.{byParent}
 use Rattle.step.specs.Brood.{Child}
-use Rattle.step.specs.Live.{Room, Under, ordersAt}
+use Rattle.step.specs.Live.{Room, ordersAt}
 use Rattle.step.specs.Scene.{Scene}
 
 pub state-is : (s : List ℕ) (p : ℕ) → stateAt s p ≡ stateOf (byteAt s p)

@@ -283,6 +283,24 @@ fn chosen_rank(sets: &[u64], q: usize, pick: u32) -> u32
     u64::trailing_zeros(ready)
 }
 
+// Whether the child of a rank, in a state, is the one that an any-order plan q activates under the pick of its word x. One that is not
+// Ready never is: nothing is worked out for it.
+fn is_picked(state: PlanState, sets: &[u64], q: usize, rank: u32, x: u32) -> bool
+    requires { ⌜ (q < 256) × (q * 9 + 9 ≤ length (now sets)) ⌝ }
+    ensures { λ r. ⌜ ((t s : List ℕ) (picks : ℕ → ℕ) (p : ℕ) → Brood t s q (now (sets .entry)) → Child t q p → picks q ≡ pickOf x → rank ≡ Table·rank t p → state ≡ stateAt s p → r ≡ eqb p (Step·chosen t s picks q)) ⌝ }
+{
+    if !is_ready(state) {
+        return false;
+    }
+    rank == chosen_rank(sets, q, pick_of(x))
+}
+
+fn is_ready(state: PlanState) -> bool
+    ensures { λ r. ⌜ r ≡ is State·Ready state ⌝ }
+{
+    state.to_byte() == PlanState::READY
+}
+
 fn is_activated(state: PlanState) -> bool
     ensures { λ r. ⌜ r ≡ is Activated state ⌝ }
 {
@@ -445,14 +463,14 @@ fn is_dormant(state: PlanState) -> bool
 }
 
 // What a child's new state is without a look at the tree, or that it is open.
-pub enum ByParent {
+enum ByParent {
     Settled(PlanState),
     Open,
 }
 
 // The new state of a child under a parent that has not begun or has ended, and of one that is Completed or Rejected, which nothing but
 // such a parent changes. Most plans of a tree stand so: this is asked first.
-pub fn by_parent(after: PlanState, old: PlanState) -> ByParent
+fn by_parent(after: PlanState, old: PlanState) -> ByParent
     ensures { λ r. ⌜ r ≡ byParent after old ⌝ }
 {
     if is_dormant(after) {
@@ -506,7 +524,7 @@ pub fn next_child(
 }
 
 // A byte as a rank: named, so that a reader of it has its bound.
-pub fn wide(x: u8) -> u32
+fn wide(x: u8) -> u32
     ensures { λ r. ⌜ r ≡ x ⌝ }
 {
     x as u32
@@ -530,7 +548,8 @@ fn advance(
     new[0] = next_root(table, ranks, names, sets, old, words).to_byte();
     for p in 1..n {
         let q = parent_at(table, p);
-        let chosen = wide(ranks[p]) == chosen_rank(sets, q, pick_of(word_at(words, q)));
+        let state = PlanState::from_byte(old[p]);
+        let chosen = is_picked(state, sets, q, wide(ranks[p]), word_at(words, q));
         new[p] = next_child(table, ranks, names, sets, old, words, new, p, chosen).to_byte();
     }
 }

@@ -10,9 +10,8 @@ use lib.ListN.{length, replicate, getD-replicate}
 use lib.Seq.{length-take-le}
 use Rattle.rules.specs.States.{code}
 use Rattle.rules.specs.Record.{statesBefore, ExplainedFirst}
-use Rattle.rules.specs.Answers.{wordsCheck, StepPasses, Judged}
+use Rattle.rules.specs.Answers.{StepPasses, Judged}
 use Rattle.rules.specs.declared.Refusal.the-variants.{Unexplained}
-use Rattle.rules.specs.declared.Outcome.the-variants.{Done}
 use Rattle.rules.specs.declared.Verdict.the-variants as verdict
 use Rattle.children.specs.Sets.{Surveyed}
 use Rattle.step.specs.Calls.{Ready}

@@ -10,7 +10,7 @@ use Rattle.rules.specs.States.{code}
 use Rattle.rules.specs.Table.{planCount}
 use Rattle.rules.specs.Words.{pickOf, word}
 use Rattle.rules.specs.Step.{stepFirst}
-use Rattle.step.proofs.Moves.{child-of, step-root, step-child, picked, whole-step}
+use Rattle.step.proofs.Moves.{state-is, child-of, step-root, step-child, picked, whole-step}
 use Rattle.step.proofs.advance.Statement.{statement}
 use Rattle.step.proofs.advance.Tie as tie
 
@@ -50,48 +50,45 @@ above c =
 room : (c : tie.At-loop Inv-loop μ-loop) → c .before .before .before .before .before .before .before .before .before .before .args .n ≤ length (c .loop .new)
 room c = omega (arith, c .before .before .before .before .before .before .before .before .before .before .pre .1 .1, c .loop .inv .2, length-set (now (c .before .before .before .before .before .before .before .before .before .before .args .new)) 0 (c .before .to-byte .result))
 
-chosen-rank-requires : tie.Need-chosen-rank-requires Inv-loop μ-loop
-chosen-rank-requires c κs =
-    let pre = c .before .before .before .before .before .before .before .before .before .before .before .before .before .before .before .before .pre in
-    let before = above (c .before .before .before .before) in (
-      omega (arith, before, pre .0 .small, pre .1 .0),
-      omega (arith, before, pre .0 .sets-room, pre .1 .0),
-      c .pick-of .ensures .1,
-    )
+is-picked-requires : tie.Need-is-picked-requires Inv-loop μ-loop
+is-picked-requires c κs =
+    let pre = c .before .before .before .before .before .before .before .before .before .before .before .before .before .before .before .before .before .pre in
+    let before = above (c .before .before .before .before .before) in
+    (omega (arith, before, pre .0 .small, pre .1 .0), omega (arith, before, pre .0 .sets-room, pre .1 .0))
 
 next-child-requires : tie.Need-next-child-requires Inv-loop μ-loop
 next-child-requires c κs =
-    let pre = c .before .before .before .before .before .before .before .before .before .before .before .before .before .before .before .before .before .before .pre in (
+    let pre = c .before .before .before .before .before .before .before .before .before .before .before .before .before .before .before .before .before .before .before .pre in (
       pre .0,
-      (c .before .before .before .before .before .before .before .before .loop .inv .0, omega (arith, pre .1 .0, c .before .before .before .before .before .before .before .loop-test .taken), omega (arith, room (c .before .before .before .before .before .before .before .before))),
+      (c .before .before .before .before .before .before .before .before .before .loop .inv .0, omega (arith, pre .1 .0, c .before .before .before .before .before .before .before .before .loop-test .taken), omega (arith, room (c .before .before .before .before .before .before .before .before .before))),
     )
 
 loop-again : tie.Need-loop-again Inv-loop μ-loop
 loop-again c =
-    let args = c .before .before .before .before .before .before .before .before .before .before .before .before .before .before .before .before .before .before .before .before .args in
-    let pre = c .before .before .before .before .before .before .before .before .before .before .before .before .before .before .before .before .before .before .before .before .pre in
+    let args = c .before .before .before .before .before .before .before .before .before .before .before .before .before .before .before .before .before .before .before .before .before .args in
+    let pre = c .before .before .before .before .before .before .before .before .before .before .before .before .before .before .before .before .before .before .before .before .before .pre in
     let t = now (args .table) in
     let s = now (args .old) in
     let w = now (args .words) in
-    let at = c .before .before .before .before .before .before .before .before .before .before .loop in
+    let at = c .before .before .before .before .before .before .before .before .before .before .before .loop in
     let inv = at .inv in
     let p = at .p in
-    let inside : p < planCount t = omega (arith, pre .1 .0, c .before .before .before .before .before .before .before .before .before .loop-test .taken) in
-    let q = c .before .before .before .before .before .before .before .before .parent-at .result in
-    let is-parent = c .before .before .before .before .before .before .before .before .parent-at .ensures in
-    let brood = pre .0 .brood q (omega (arith, above (c .before .before .before .before .before .before .before .before))) in
-    let pick = sym (c .before .before .before .before .pick-of .ensures .0 ∙ ap pickOf (c .before .before .before .before .before .word-at .ensures)) in
-    let rank = c .before .before .before .before .before .before .wide .ensures ∙ pre .0 .ranked p inside in
+    let inside : p < planCount t = omega (arith, pre .1 .0, c .before .before .before .before .before .before .before .before .before .before .loop-test .taken) in
+    let q = c .before .before .before .before .before .before .before .before .before .parent-at .result in
+    let is-parent = c .before .before .before .before .before .before .before .before .before .parent-at .ensures in
+    let brood = pre .0 .brood q (omega (arith, above (c .before .before .before .before .before .before .before .before .before))) in
     let chosen =
-    ap (λ (k : ℕ). eqb k (c .before .before .before .chosen-rank .result)) rank
-    ∙ c .before .before .before .chosen-rank .ensures t s (λ k. pickOf (word w k)) p brood (child-of t q p (inv .0) inside is-parent) pick
+    c .before .before .before .is-picked .ensures t s (λ k. pickOf (word w k)) p brood (child-of t q p (inv .0) inside is-parent)
+    (sym (ap pickOf (c .before .before .before .before .word-at .ensures)))
+    (c .before .before .before .before .before .wide .ensures ∙ pre .0 .ranked p inside)
+    (c .before .before .before .before .before .before .before .from-byte .ensures ∙ sym (state-is s p))
     ∙ ap (λ (k : ℕ). eqb p (picked t s w k)) is-parent
     in (
       omega arith,
       omega arith,
       simp length-set (inv .2 ∙ simp length-set),
       step-child t s w (picked t s w) (at .new) p _ (inv .0) (pre .0 .down p (inv .0) inside)
-          (omega (arith, inside, room (c .before .before .before .before .before .before .before .before .before .before), pre .1 .0))
+          (omega (arith, inside, room (c .before .before .before .before .before .before .before .before .before .before .before), pre .1 .0))
           (c .to-byte2 .ensures ∙ ap code (c .before .next-child .ensures (picked t s w) chosen))
           (inv .3),
     )
@@ -120,15 +117,16 @@ advance-spec =
     (λ c. omega (arith, c .before .before .before .before .before .before .before .before .before .pre .0 .some, c .before .before .before .before .before .before .before .before .before .pre .1))
     loop-holds
     (λ c κs. omega (arith, c .before .before .before .before .before .before .before .before .before .before .before .pre .0 .long, c .before .before .before .before .before .before .before .before .before .before .before .pre .1 .0))
-    (λ c. omega (arith, c .before .before .before .before .before .before .before .before .before .before .before .before .before .pre .0 .ranks-room, c .before .before .before .before .before .before .before .before .before .before .before .before .before .pre .1 .0, c .before .before .loop-test .taken))
+    (λ c. omega (arith, c .before .before .before .before .before .before .before .before .before .before .before .before .before .pre .0 .states-room, c .before .before .before .before .before .before .before .before .before .before .before .before .before .pre .1 .0, c .before .before .loop-test .taken))
     (λ c κs. search needs)
-    (λ c κs. omega (arith, above (c .before .before), c .before .before .before .before .before .before .before .before .before .before .before .before .before .before .pre .0 .words-room, c .before .before .before .before .before .before .before .before .before .before .before .before .before .before .pre .1 .0))
+    (λ c. omega (arith, c .before .before .before .before .before .before .before .before .before .before .before .before .before .before .before .pre .0 .ranks-room, c .before .before .before .before .before .before .before .before .before .before .before .before .before .before .before .pre .1 .0, c .before .before .before .before .loop-test .taken))
     (λ c κs. search needs)
-    chosen-rank-requires
+    (λ c κs. omega (arith, above (c .before .before .before .before), c .before .before .before .before .before .before .before .before .before .before .before .before .before .before .before .before .pre .0 .words-room, c .before .before .before .before .before .before .before .before .before .before .before .before .before .before .before .before .pre .1 .0))
+    is-picked-requires
     next-child-requires
     (λ c κs. search needs)
-    (λ c. omega (arith, room (c .before .before .before .before .before .before .before .before .before .before)))
-    (λ c. omega (arith, c .before .before .before .before .before .before .before .before .before .loop-test .taken, c .before .before .before .before .before .before .before .before .before .before .before .before .before .before .before .before .before .before .before .before .pre .0 .small, c .before .before .before .before .before .before .before .before .before .before .before .before .before .before .before .before .before .before .before .before .pre .1 .0))
+    (λ c. omega (arith, room (c .before .before .before .before .before .before .before .before .before .before .before)))
+    (λ c. omega (arith, c .before .before .before .before .before .before .before .before .before .before .loop-test .taken, c .before .before .before .before .before .before .before .before .before .before .before .before .before .before .before .before .before .before .before .before .before .pre .0 .small, c .before .before .before .before .before .before .before .before .before .before .before .before .before .before .before .before .before .before .before .before .before .pre .1 .0))
     (λ c. omega arith)
     loop-again
     (λ c. c .before .loop .inv .2 ∙ simp length-set)

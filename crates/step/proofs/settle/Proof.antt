@@ -1,11 +1,11 @@
 -- `settle` meets its contract: no step so far was without change, until one is or the budget is used. Assumes nothing.
-use mathlib.Core.Path.{_≡_, refl, sym, ap, _∙_}
+use mathlib.Core.Path.{_≡_, refl, sym, _∙_}
 use mathlib.Core.List.{List}
 use Prim.Native.Nat.{ℕ, _-_, _≤_, _*_}
 use native.Mathlib.Omega.{arith}
 use borrow.Author.Needs.{needs}
 use denote.Ref.{now}
-use lib.ListN.{length, take, replicate, getD-replicate}
+use lib.ListN.{length, replicate, getD-replicate}
 use lib.Seq.{length-take-le}
 use Rattle.rules.proofs.Tree.{passes, tree}
 use Rattle.children.specs.Sets.{Surveyed}
