@@ -115,7 +115,7 @@ module _ (t s w ranks counts names : List ℕ) where
   call-lent r d known e = record { is = e ∙ sym (then-next (tableCheck t) _ d); facts = λ x. known }
 
   -- where it passes the plans may move
-  pub ready : callCheck t s w ≡ Done → Facts t ranks counts names → 256 ≤ length ranks → 256 ≤ length names → Ready t s w ranks names
+  pub ready : callCheck t s w ≡ Done → Facts t ranks counts names → planCount t ≤ length ranks → planCount t ≤ length names → Ready t s w ranks names
   ready d known ranks-room names-room =
       record {
         prepared = prepared t ranks counts names (table-passes t s w d) known ranks-room names-room;

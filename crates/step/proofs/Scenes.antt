@@ -72,7 +72,7 @@ module _ (t s w ranks names : List ℕ) (ready : Ready t s w ranks names) (n : �
   codes p l = ltb-true (byteAt s p) 9 (code-at p (ready .passes .unbroken p (omega arith)))
 
   rank-room : n ≤ length ranks
-  rank-room = omega (arith, shape .small, ready .prepared .ranks-room)
+  rank-room = omega (arith, ready .prepared .ranks-room)
 
   state-room : n ≤ length s
   state-room = omega (arith, ready .passes .long)
@@ -109,8 +109,8 @@ module _ (t s w ranks names : List ℕ) (ready : Ready t s w ranks names) (n : �
           long = passed .long;
           states-room = omega (arith, ready .passes .long);
           words-room = omega (arith, ready .words);
-          ranks-room = omega (arith, shape .small, ready .prepared .ranks-room);
-          names-room = omega (arith, shape .small, ready .prepared .names-room);
+          ranks-room = ready .prepared .ranks-room;
+          names-room = ready .prepared .names-room;
           sets-room = omega arith;
           down = shape .down;
           ranked = ready .prepared .ranked;

@@ -22,7 +22,7 @@ pub record Counted (t : List ℕ) (n : ℕ) (counts w : List ℕ) : Type 0 where
 -- a table that passes, with its numbers of children
 pub record Tabled (t counts : List ℕ) : Type 0 where
   pub done : tableCheck t ≡ Done
-  pub room : 256 ≤ length counts
+  pub room : planCount t ≤ length counts
   pub counted : (q : ℕ) → q < planCount t → byteAt counts q ≡ length (children t q)
 
 -- a call has been checked, with this outcome; where it passes the table's facts are known

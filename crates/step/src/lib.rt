@@ -14,6 +14,7 @@ ghost use Rattle.rules.specs.Step.{moveOn, cutOff, none, ordersOf, tooManyLost,
 ghost use Rattle.rules.specs.HandedIn.{suits, badState};
 ghost use Rattle.rules.specs.Step.{chosen as Step·chosen};
 ghost use Rattle.children.specs.Sets.{setOf, Rooted, Surveyed};
+ghost use Rattle.table.specs.Facts.{RoomFor};
 ghost use Rattle.table.specs.Lowest.{Lowest};
 ghost use Rattle.step.specs.HandedIn.{breaksBy};
 ghost use Rattle.rules.specs.Words.{pickOf, pickAllowed, otherBits, satisfiedOnly, contradicts};
@@ -734,7 +735,7 @@ fn check_call(
     counts: &mut [u8],
     names: &mut [u64],
 ) -> Outcome
-    requires { ⌜ (256 ≤ length (now ranks)) × (256 ≤ length (now counts)) × (256 ≤ length (now names)) ⌝ }
+    requires { ⌜ RoomFor (now table) 1 (now ranks) × RoomFor (now table) 1 (now counts) × RoomFor (now table) 1 (now names) ⌝ }
     ensures { λ r. ⌜ Called (now (table .entry)) (now (states .entry)) (now (words .entry)) (now (ranks .exit)) (now (counts .exit)) (now (names .exit)) r ⌝ }
 {
     match read_table(table, ranks, counts, names) {
@@ -770,48 +771,92 @@ fn unchanged(new: &[u8], states: &[u8]) -> bool
     true
 }
 
-// One synchronous step over the states, or a refusal that changes none of them.
+// One synchronous step over the states, or a refusal that changes none of them. Its work space is cleared in each call: a small tree
+// does not pay for a large one.
 pub fn step(table: &[u8], states: &mut [u8], words: &[u8]) -> Outcome
     ensures answer { λ r. ⌜ r ≡ stepAnswer (now (table .entry)) (now (states .entry)) (now (words .entry)) ⌝ }
     ensures left { λ _. ⌜ now (states .exit) ≡ stepStates (now (table .entry)) (now (states .entry)) (now (words .entry)) ⌝ }
 {
+    // the bytes of a table of 16 plans, and then of 64
+    if table.len() <= 136 {
+        let mut ranks = [0u8; 16];
+        let mut counts = [0u8; 16];
+        let mut names = [0u64; 16];
+        let mut sets = [0u64; 144];
+        let mut new = [0u8; 16];
+        return step_within(
+            table,
+            states,
+            words,
+            &mut ranks,
+            &mut counts,
+            &mut names,
+            &mut sets,
+            &mut new,
+        );
+    }
+    if table.len() <= 520 {
+        let mut ranks = [0u8; 64];
+        let mut counts = [0u8; 64];
+        let mut names = [0u64; 64];
+        let mut sets = [0u64; 576];
+        let mut new = [0u8; 64];
+        return step_within(
+            table,
+            states,
+            words,
+            &mut ranks,
+            &mut counts,
+            &mut names,
+            &mut sets,
+            &mut new,
+        );
+    }
     let mut ranks = [0u8; 256];
     let mut counts = [0u8; 256];
     let mut names = [0u64; 256];
-    match check_call(table, states, words, &mut ranks, &mut counts, &mut names) {
+    let mut sets = [0u64; 2304];
+    let mut new = [0u8; 256];
+    step_within(
+        table,
+        states,
+        words,
+        &mut ranks,
+        &mut counts,
+        &mut names,
+        &mut sets,
+        &mut new,
+    )
+}
+
+// The same, within work space that has room for every plan of the table, and whose words are 0.
+fn step_within(
+    table: &[u8],
+    states: &mut [u8],
+    words: &[u8],
+    ranks: &mut [u8],
+    counts: &mut [u8],
+    names: &mut [u64],
+    sets: &mut [u64],
+    new: &mut [u8],
+) -> Outcome
+    requires facts { ⌜ RoomFor (now table) 1 (now ranks) × RoomFor (now table) 1 (now counts) × RoomFor (now table) 1 (now names) ⌝ }
+    requires room { ⌜ RoomFor (now table) 9 (now sets) × RoomFor (now table) 1 (now new) ⌝ }
+    requires empty { ⌜ ((i : ℕ) → i < length (now sets) → getD (now sets) i 0 ≡ 0) ⌝ }
+    ensures answer { λ r. ⌜ r ≡ stepAnswer (now (table .entry)) (now (states .entry)) (now (words .entry)) ⌝ }
+    ensures left { λ _. ⌜ now (states .exit) ≡ stepStates (now (table .entry)) (now (states .entry)) (now (words .entry)) ⌝ }
+{
+    match check_call(table, states, words, ranks, counts, names) {
         Outcome::Refused(why) => Outcome::Refused(why),
         Outcome::Done => {
-            step_over(table, &ranks, &names, states, words);
+            step_over(table, ranks, names, states, words, sets, new);
             Outcome::Done
         }
     }
 }
 
-// One step over states that have passed the checks. All of the work space is cleared first: a small tree does not pay for a large one.
-fn step_over(table: &[u8], ranks: &[u8], names: &[u64], states: &mut [u8], words: &[u8])
-    requires { ⌜ Ready (now table) (now states) (now words) (now ranks) (now names) ⌝ }
-    ensures { λ _. ⌜ now (states .exit) ≡ step (now (table .entry)) (now (states .entry)) (now (words .entry)) ⌝ }
-{
-    let n = states.len();
-    if n <= 16 {
-        let mut sets = [0u64; 144];
-        let mut new = [0u8; 16];
-        step_within(table, ranks, names, states, words, &mut sets, &mut new);
-        return;
-    }
-    if n <= 64 {
-        let mut sets = [0u64; 576];
-        let mut new = [0u8; 64];
-        step_within(table, ranks, names, states, words, &mut sets, &mut new);
-        return;
-    }
-    let mut sets = [0u64; 2304];
-    let mut new = [0u8; 256];
-    step_within(table, ranks, names, states, words, &mut sets, &mut new);
-}
-
-// The same within work space that has room for every plan, and whose words are 0.
-fn step_within(
+// One step over states that have passed the checks.
+fn step_over(
     table: &[u8],
     ranks: &[u8],
     names: &[u64],

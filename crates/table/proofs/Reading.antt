@@ -118,8 +118,8 @@ module _
 
 -- a table that passes, and its facts, for those above
 pub prepared :
-    (t ranks counts names : List ℕ) → tableCheck t ≡ Done → Facts t ranks counts names → 256 ≤ length ranks → 256 ≤ length names
-    → Prepared t ranks names
+    (t ranks counts names : List ℕ) → tableCheck t ≡ Done → Facts t ranks counts names → planCount t ≤ length ranks
+    → planCount t ≤ length names → Prepared t ranks names
 prepared t ranks counts names done facts ranks-room names-room =
     record {
       done = done;

@@ -46,6 +46,10 @@ pub record Known (t : List ℕ) (n : ℕ) (counts names : List ℕ) : Type 0 whe
   pub counted : (q : ℕ) → q < n → byteAt counts q ≡ length (children t q)
   pub collected : (q : ℕ) → q < n → getD names q 0 ≡ setOf t q (λ c. named (entry t c))
 
+-- a buffer has room for k numbers a plan, as many plans as the table's bytes may have: never more than 256
+abbrev pub RoomFor : List ℕ → ℕ → List ℕ → Type 0
+RoomFor t k buffer = (n : ℕ) → length t ≡ 8 + 8 * n → n ≤ 256 → n * k ≤ length buffer
+
 -- what a table that passes gives to those above: its plans' parents, ranks, numbers of children and named children
 pub record Facts (t ranks counts names : List ℕ) : Type 0 where
   pub some : 0 < planCount t
@@ -65,8 +69,8 @@ pub record Checked (t ranks counts names : List ℕ) (outcome : Outcome) : Type 
 -- a table that passes, with its plans' ranks and named children at hand
 pub record Prepared (t ranks names : List ℕ) : Type 0 where
   pub done : tableCheck t ≡ Done
-  pub ranks-room : 256 ≤ length ranks
-  pub names-room : 256 ≤ length names
+  pub ranks-room : planCount t ≤ length ranks
+  pub names-room : planCount t ≤ length names
   pub ranked : (p : ℕ) → p < planCount t → byteAt ranks p ≡ rank t p
   pub collected : (q : ℕ) → q < planCount t → getD names q 0 ≡ setOf t q (λ c. named (entry t c))
 

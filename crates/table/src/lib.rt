@@ -12,7 +12,7 @@ ghost use Rattle.rules.specs.Answers.{undefinedEntry, strayAt, unfitEntry, unro
 ghost use Rattle.rules.specs.SubTree.{subTree};
 ghost use Rattle.children.specs.Sets.{Rooted};
 ghost use Rattle.table.specs.Lowest.{Lowest};
-ghost use Rattle.table.specs.Facts.{Shaped, breaksEntry, breaking, Known, Checked, outside};
+ghost use Rattle.table.specs.Facts.{Shaped, breaksEntry, breaking, Known, RoomFor, Checked, outside};
 use children::collect_named;
 use children::rank_children;
 use rules::Outcome;
@@ -192,7 +192,7 @@ fn plans_check(table: &[u8], n: usize, counts: &[u8], names: &[u64]) -> Outcome
 // Checks 5 to 9 of a table whose header passes.
 fn body_check(table: &[u8], ranks: &mut [u8], counts: &mut [u8], names: &mut [u64]) -> Outcome
     requires header { ⌜ headerCheck (now table) ≡ Outcome.Done ⌝ }
-    requires room { ⌜ (256 ≤ length (now ranks)) × (256 ≤ length (now counts)) × (256 ≤ length (now names)) ⌝ }
+    requires room { ⌜ RoomFor (now table) 1 (now ranks) × RoomFor (now table) 1 (now counts) × RoomFor (now table) 1 (now names) ⌝ }
     ensures { λ r. ⌜ Checked (now (table .entry)) (now (ranks .exit)) (now (counts .exit)) (now (names .exit)) r ⌝ }
 {
     let n = u16_at(table, 5) as usize;
@@ -211,7 +211,7 @@ fn body_check(table: &[u8], ranks: &mut [u8], counts: &mut [u8], names: &mut [u6
 
 // Checks 1 to 9. Of a good table the buffers then hold the plans' ranks, numbers of children and named children.
 pub fn read_table(table: &[u8], ranks: &mut [u8], counts: &mut [u8], names: &mut [u64]) -> Outcome
-    requires { ⌜ (256 ≤ length (now ranks)) × (256 ≤ length (now counts)) × (256 ≤ length (now names)) ⌝ }
+    requires { ⌜ RoomFor (now table) 1 (now ranks) × RoomFor (now table) 1 (now counts) × RoomFor (now table) 1 (now names) ⌝ }
     ensures { λ r. ⌜ Checked (now (table .entry)) (now (ranks .exit)) (now (counts .exit)) (now (names .exit)) r ⌝ }
 {
     match header_check(table) {

@@ -11,7 +11,7 @@ check-record-requires : tie.Need-check-record-requires
 check-record-requires c κs =
     let read = c .before .before .before .before .before .before .before .read-table .ensures in
     let told = c .before .before .enum-told .given .1 in
-    prepared _ _ _ _ (sym (read .is) ∙ told) (read .facts told) (omega arith) (omega arith)
+    prepared _ _ _ _ (sym (read .is) ∙ told) (read .facts told) (omega (arith, read .facts told .small)) (omega (arith, read .facts told .small))
 
 returns : tie.Need-returns
 returns c = table-refused _ _ _ (sym (c .before .before .before .before .before .before .read-table .ensures .is) ∙ c .before .why .given .1)

@@ -12,7 +12,7 @@ check-lent-requires c κs =
     let told = c .before .enum-told .given .1 in
     record {
       done = sym (read .is) ∙ told;
-      room = omega (arith, c .before .before .before .before .before .before .before .before .before .before .before .before .before .before .before .before .before .before .before .pre);
+      room = omega (arith, c .before .before .before .before .before .before .before .before .before .before .before .before .before .before .before .before .before .before .before .pre .1 _ (read .facts told .long) (read .facts told .small));
       counted = read .facts told .counted;
     }
 

@@ -44,7 +44,7 @@ lowest-bad-word-requires c κs =
     record {
       small = tree .small;
       room = tree .room;
-      counts-room = omega (arith, tree .small, tabled .room);
+      counts-room = omega (arith, whole, tabled .room);
       words-room = omega (arith, agreed (c .before .before) .1);
       counted = λ q l. tabled .counted q (omega (arith, whole));
     }

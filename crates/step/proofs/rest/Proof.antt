@@ -11,7 +11,7 @@ settle-requires : tie.Need-settle-requires
 settle-requires c κs =
     let called = c .before .before .before .before .before .before .before .before .check-call .ensures in
     let told = c .before .before .before .enum-told .given .1 in
-    ready _ _ _ _ _ _ (sym (called .is) ∙ told) (called .facts told) (omega arith) (omega arith)
+    ready _ _ _ _ _ _ (sym (called .is) ∙ told) (called .facts told) (omega (arith, called .facts told .small)) (omega (arith, called .facts told .small))
 
 returns : tie.Need-returns
 returns c = run-refused _ _ _ _ _ (sym (c .before .before .before .before .before .before .check-call .ensures .is) ∙ c .before .why .given .1)

@@ -1,26 +1,28 @@
--- `step` meets its contract: the checks, and where they pass one step. Assumes nothing.
-use mathlib.Core.Path.{sym, _∙_}
+-- `step` meets its contract: in each of the three work spaces. Assumes nothing.
+use Prim.Native.Nat.{ℕ}
 use native.Mathlib.Omega.{arith}
 use borrow.Author.Needs.{needs}
-use Rattle.step.proofs.Calls.{ready, step-leaves, step-steps}
+use lib.ListN.{getD-replicate}
 use Rattle.step.proofs.step.Statement.{statement}
 use Rattle.step.proofs.step.Tie as tie
 
-step-over-requires : tie.Need-step-over-requires
-step-over-requires c κs =
-    let called = c .before .before .before .before .before .before .before .before .check-call .ensures in
-    let told = c .before .before .before .enum-told .given .1 in
-    ready _ _ _ _ _ _ (sym (called .is) ∙ told) (called .facts told) (omega arith) (omega arith)
+step-within-requires : tie.Need-step-within-requires
+step-within-requires c κs = (
+  (λ n e l. omega (arith, c .before .before .before .before .before .before .if1 .taken, e), λ n e l. omega (arith, c .before .before .before .before .before .before .if1 .taken, e), λ n e l. omega (arith, c .before .before .before .before .before .before .if1 .taken, e)),
+  ((λ n e l. omega (arith, c .before .before .before .before .before .before .if1 .taken, e), λ n e l. omega (arith, c .before .before .before .before .before .before .if1 .taken, e)), λ i l. getD-replicate {A = ℕ} 144 i 0 0 l),
+)
 
-returns : tie.Need-returns
-returns c =
-    let refused = sym (c .before .before .before .before .before .before .check-call .ensures .is) ∙ c .before .why .given .1 in
-    (sym refused, step-leaves _ _ _ _ refused)
+step-within-requires-2 : tie.Need-step-within-requires-2
+step-within-requires-2 c κs = (
+  (λ n e l. omega (arith, c .before .before .before .before .before .before .if2 .taken, e), λ n e l. omega (arith, c .before .before .before .before .before .before .if2 .taken, e), λ n e l. omega (arith, c .before .before .before .before .before .before .if2 .taken, e)),
+  ((λ n e l. omega (arith, c .before .before .before .before .before .before .if2 .taken, e), λ n e l. omega (arith, c .before .before .before .before .before .before .if2 .taken, e)), λ i l. getD-replicate {A = ℕ} 576 i 0 0 l),
+)
 
-returns-2 : tie.Need-returns-2
-returns-2 c =
-    let done = sym (c .before .before .before .before .before .before .before .before .before .before .before .check-call .ensures .is) ∙ c .before .before .before .before .before .before .enum-told .given .1 in
-    (sym done, step-steps _ _ _ _ done (c .before .before .step-over .ensures))
+step-within-requires-3 : tie.Need-step-within-requires-3
+step-within-requires-3 c κs = (
+  (λ n e l. omega (arith, l), λ n e l. omega (arith, l), λ n e l. omega (arith, l)),
+  ((λ n e l. omega (arith, l), λ n e l. omega (arith, l)), λ i l. getD-replicate {A = ℕ} 2304 i 0 0 l),
+)
 
 pub step-spec : {M : Type 1} → statement M
 step-spec =
@@ -29,13 +31,24 @@ step-spec =
     (λ c. search needs)
     (λ c. search needs)
     (λ c. search needs)
-    (λ c κs. search needs)
+    (λ c. search needs)
+    (λ c. search needs)
+    step-within-requires
     (λ c. search needs)
     (λ c. search needs)
     (λ c. search needs)
     (λ c. search needs)
-    step-over-requires
     (λ c. search needs)
-    returns
     (λ c. search needs)
-    returns-2)
+    (λ c. search needs)
+    step-within-requires-2
+    (λ c. search needs)
+    (λ c. search needs)
+    (λ c. search needs)
+    (λ c. search needs)
+    (λ c. search needs)
+    (λ c. search needs)
+    (λ c. search needs)
+    step-within-requires-3
+    (λ c. search needs)
+    (λ c. search needs))

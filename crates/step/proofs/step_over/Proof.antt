@@ -1,45 +1,33 @@
--- `step_over` meets its contract: in each of the three work spaces. Assumes nothing.
-use Prim.Native.Nat.{ℕ}
+-- `step_over` meets its contract: the survey of the states, the step from it, and the new states taken over. Assumes nothing.
+use mathlib.Core.Path.{_∙_}
 use native.Mathlib.Omega.{arith}
 use borrow.Author.Needs.{needs}
-use lib.ListN.{getD-replicate}
-use Rattle.rules.proofs.Tree.{passes, tree}
+use denote.Ref.{now}
+use Rattle.step.proofs.Scenes.{may-survey, scene}
 use Rattle.step.proofs.step_over.Statement.{statement}
 use Rattle.step.proofs.step_over.Tie as tie
 
-step-within-requires : tie.Need-step-within-requires
-step-within-requires c κs =
-    let few = c .before .before .before .if1 .taken in
-    (c .before .before .before .before .before .before .before .before .before .pre, ((omega (arith, few), omega (arith, few)), λ i l. getD-replicate {A = ℕ} 144 i 0 0 (omega (arith, few))))
+survey-requires : tie.Need-survey-requires
+survey-requires c κs =
+    let pre = c .before .before .before .before .before .before .before .before .before .pre in
+    may-survey _ _ _ _ _ (pre .0) _ (pre .0 .passes .long) (now (c .before .before .before .before .before .before .before .before .before .args .sets)) (pre .1 .0 .0) (pre .1 .1)
 
-step-within-requires-2 : tie.Need-step-within-requires-2
-step-within-requires-2 c κs =
-    let few = c .before .before .before .if2 .taken in
-    (c .before .before .before .before .before .before .before .before .before .before .pre, ((omega (arith, few), omega (arith, few)), λ i l. getD-replicate {A = ℕ} 576 i 0 0 (omega (arith, few))))
-
-step-within-requires-3 : tie.Need-step-within-requires-3
-step-within-requires-3 c κs =
-    let ready = c .before .before .before .before .before .before .before .before .before .before .pre in
-    let long = ready .passes .long in
-    let few = tree _ (passes _ (ready .prepared .done)) .small in
-    (ready, ((omega (arith, long, few), omega (arith, long, few)), λ i l. getD-replicate {A = ℕ} 2304 i 0 0 (omega (arith, long, few))))
+advance-requires : tie.Need-advance-requires
+advance-requires c κs =
+    let pre = c .before .before .before .before .before .before .before .before .before .before .before .before .before .before .before .pre in
+    let survey = c .before .before .before .before .before .survey .ensures in (
+      scene _ _ _ _ _ (pre .0) _ (pre .0 .passes .long) _ (survey .0) (omega (arith, pre .1 .0 .0, survey .1 .long)),
+      (pre .0 .passes .long, pre .1 .0 .1),
+    )
 
 pub step-over-spec : {M : Type 1} → statement M
 step-over-spec =
     tie.close
     (tie.spec
-    (λ c. search needs)
-    (λ c. search needs)
-    step-within-requires
-    (λ c. search needs)
-    (λ c. search needs)
-    (λ c. search needs)
-    (λ c. search needs)
-    step-within-requires-2
+    survey-requires
+    advance-requires
+    (λ c κs. search needs)
     (λ c. search needs)
     (λ c. search needs)
     (λ c. search needs)
-    (λ c. search needs)
-    step-within-requires-3
-    (λ c. search needs)
-    (λ c. search needs))
+    (λ c. c .before .before .take-over .ensures ∙ c .before .before .before .before .before .before .before .advance .ensures))

@@ -40,10 +40,23 @@ range c =
 long : (c : tie.Else1) → length (now (c .before .before .before .before .before .before .args .table)) ≡ 8 + 8 * planCount (now (c .before .before .before .before .before .before .args .table))
 long c = c .if1 .left ∙ ap (λ (k : ℕ). 8 + 8 * k) (c .before .u16-at .ensures)
 
+-- the buffers have room for its plans
+rooms :
+    (c : tie.Else1)
+    → (c .before .u16-at .result ≤ length (now (c .before .before .before .before .before .before .args .ranks)))
+    × (c .before .u16-at .result ≤ length (now (c .before .before .before .before .before .before .args .counts)))
+    × (c .before .u16-at .result ≤ length (now (c .before .before .before .before .before .before .args .names)))
+rooms c =
+    let room = c .before .before .before .before .before .before .pre .1 in
+    let small = range (c .before) .1 in
+    let long = c .if1 .left in
+    (omega (arith, room .0 _ long small), omega (arith, room .1 _ long small), omega (arith, room .2 _ long small))
+
 lowest-bad-parent-requires : tie.Need-lowest-bad-parent-requires
 lowest-bad-parent-requires c κs =
     let n = range (c .before .before .before) in
-    ((n .0, n .1, omega arith), (omega (arith, n .1), omega (arith, n .1)))
+    let room = rooms (c .before .before) in
+    ((n .0, n .1, omega arith), (omega (arith, room .0), omega (arith, room .1)))
 
 returns-2 : tie.Need-returns-2
 returns-2 c =
@@ -57,16 +70,16 @@ collect-named-requires : tie.Need-collect-named-requires
 collect-named-requires c κs =
     let shaped = c .before .before .before .before .before .before .before .lowest-bad-parent .ensures in
     let none = c .before .before .if2 .left in
-    let n = range (c .before .before .before .before .before .before .before .before .before .before .before) in
-    (shaped .rooted none, (shaped .narrow none, (omega (arith, n .1), omega (arith, n .1))))
+    let room = rooms (c .before .before .before .before .before .before .before .before .before .before) in
+    (shaped .rooted none, (shaped .narrow none, (omega (arith, room .0), omega (arith, room .2))))
 
 plans-check-requires : tie.Need-plans-check-requires
 plans-check-requires c κs =
-    let n = range (c .before .before .before .before .before .before .before .before .before .before .before .before .before .before .before .before) in
+    let room = rooms (c .before .before .before .before .before .before .before .before .before .before .before .before .before .before .before) in
     known _ _ (c .before .before .before .before .before .before .before .before .before .before .before .before .before .before .before .before .u16-at .ensures) _ _ _ _ (c .before .before .before .before .before .before .before .before .before .before .before .before .lowest-bad-parent .ensures) (c .before .before .before .before .before .before .before .if2 .left)
     (c .before .before .before .before .collect-named .ensures .0)
-    (omega (arith, n .1))
-    (omega (arith, n .1))
+    (omega (arith, room .1))
+    (omega (arith, room .2))
 
 returns-3 : tie.Need-returns-3
 returns-3 c =
