@@ -1,23 +1,19 @@
 -- Laws of binary words, the lowest digit first: what each operation on a word does to the list of its digits. Assumes nothing.
 use mathlib.Core.Path.{_≡_, refl, sym, ap, ap₂, _∙_}
 use mathlib.Core.List.{List, [], _∷_, _++_, map}
-use mathlib.Core.Bool.{Bool, true, false, cond, _&&_, _||_, not}
-use Prim.Native.Nat.{ℕ, zero, suc, _+_, _-_, _*_, _/_, _%_, _^_, _≤_, _<_, min, max}
+use mathlib.Core.Bool.{Bool, true, false, _&&_, _||_, not}
+use Prim.Native.Nat.{ℕ, zero, suc, _+_, _-_, _*_, _/_, _%_, _^_, _≤_, _<_, min}
 use native.Mathlib.Nat.{pow-suc, lt-of-lt-of-le}
 use native.Mathlib.Numerals.{one-add}
 use native.Mathlib.Omega.{arith}
-use lib.Dec.{eqb}
 use lib.ListN.{length, getD}
 use lib.Pow.{shr-shr, shr-le, pow-mono, pow-pos}
 use lib.Bits.{bitAnd, bitOr, and-step, or-step}
 use lib.Count.{ones, leadingZeros, trailingZeros, under, ones-step, leading-unique}
 use Rattle.rules.specs.Lists.{count}
 use Rattle.rules.specs.Bytes.{isSet}
+use Rattle.rules.proofs.Digits.{bit, is-bit, min-bit, max-bit}
 use Rattle.children.specs.Sets.{bits}
-
--- a digit
-abbrev pub bit : Bool → ℕ
-bit b = cond b 1 0
 
 pub bit-le : (b : Bool) → bit b ≤ 1
 bit-le true = omega arith
@@ -60,26 +56,10 @@ digit-at (b ∷ bs) (suc r) =
     ∙ ap (λ (x : ℕ). x / 2 ^ r % 2) (bits-half b bs)
     ∙ digit-at bs r
 
-is-bit : (b : Bool) → eqb (bit b) 1 ≡ b
-is-bit true = refl
-is-bit false = refl
-
 pub digit-bits : (bs : List Bool) (r : ℕ) → isSet r (bits bs) ≡ getD bs r false
 digit-bits bs r = rw digit-at (is-bit (getD bs r false))
 
 -- and, or
-min-bit : (a b : Bool) → min (bit a) (bit b) ≡ bit (a && b)
-min-bit true true = refl
-min-bit true false = refl
-min-bit false true = refl
-min-bit false false = refl
-
-max-bit : (a b : Bool) → max (bit a) (bit b) ≡ bit (a || b)
-max-bit true true = refl
-max-bit true false = refl
-max-bit false true = refl
-max-bit false false = refl
-
 cons : (b : Bool) (x y : ℕ) → x ≡ y → x * 2 + bit b ≡ bit b + 2 * y
 cons b x y e = omega arith
 

@@ -12,8 +12,9 @@ use lib.Dec.{eqb, ltb}
 use borrow.Author.Tests.{eq-eqb, ne-eqb, lt-ltb, le-ltb}
 use Rattle.rules.specs.Bytes.{byteAt}
 use Rattle.rules.specs.Table.{parent, isChild, childrenBefore, rank}
+use Rattle.rules.proofs.Digits.{bit}
 use Rattle.children.specs.Sets.{setBefore, Rooted, Beyond, Surveyed}
-use Rattle.children.proofs.Bits.{bit, bits-fit}
+use Rattle.children.proofs.Bits.{bits-fit}
 use Rattle.children.proofs.Kin.{
   child-parent,
   few-children,

@@ -12,8 +12,9 @@ use lib.Dec.{eqb}
 use borrow.Author.Tests.{eq-eqb, ne-eqb, eqb-true}
 use Rattle.rules.specs.Bytes.{byteAt}
 use Rattle.rules.specs.Table.{parent, isChild, childrenBefore, rank}
+use Rattle.rules.proofs.Digits.{bit}
 use Rattle.children.specs.Sets.{bits, setBefore, Rooted, Beyond, Ranked, Collected}
-use Rattle.children.proofs.Bits.{bit, bits-snoc, bits-fit}
+use Rattle.children.proofs.Bits.{bits-snoc, bits-fit}
 
 module _ (t : List ℕ) where
   is-child : (q p : ℕ) → 0 < p → isChild t q p ≡ eqb (parent t p) q

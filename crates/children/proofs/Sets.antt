@@ -15,9 +15,9 @@ use borrow.Author.Tests.{eq-eqb, ne-eqb}
 use Rattle.rules.specs.Bytes.{isSet}
 use Rattle.rules.specs.Lists.{some, count, first, noPlan}
 use Rattle.rules.specs.Table.{planCount, parent, isChild, childrenBefore, children, rank}
+use Rattle.rules.proofs.Digits.{bit}
 use Rattle.children.specs.Sets.{bits, setBefore, setOf}
 use Rattle.children.proofs.Bits.{
-  bit,
   and-bits,
   or-bits,
   ones-bits,

@@ -8,7 +8,7 @@ ghost use Rattle.rules.specs.Bytes.{isSet, u16At, u32At};
 ghost use Rattle.rules.specs.States.{code, stateOf, ended};
 ghost use Rattle.rules.specs.Table.{bodyOf, isLeaf, retryAborted, waitForOptional, named, bitOf, entry, parent, enough};
 ghost use Rattle.rules.specs.Answers.{placed, place};
-ghost use Rattle.rules.specs.Words.{word, absentHolds, presentHolds, holds, satisfiable};
+ghost use Rattle.rules.specs.Words.{word, holds, satisfiable};
 
 // The state of a plan.
 pub enum PlanState {
@@ -144,20 +144,6 @@ impl Condition {
             Condition::Complete => 5,
         }
     }
-
-    // Whether the condition holds of a plan that does not have it.
-    pub fn absent_holds(self) -> bool
-        ensures { λ r. ⌜ r ≡ absentHolds self ⌝ }
-    {
-        match self {
-            Condition::Filter => true,
-            Condition::Setup => true,
-            Condition::Suspend => false,
-            Condition::Reactivate => true,
-            Condition::Abort => false,
-            Condition::Complete => true,
-        }
-    }
 }
 
 // Whether bit k of x is set.
@@ -180,26 +166,25 @@ pub struct PlanEntry {
 }
 
 impl PlanEntry {
-    // Whether the condition at bit k, which the plan has, holds under the input word.
-    fn present_holds(self, k: u32, word: u32) -> bool
-        requires { ⌜ k < 6 ⌝ }
-        ensures { λ r. ⌜ r ≡ presentHolds k self word ⌝ }
+    // The conditions that hold of a plan that lacks them, a bit for each: 0 filter, 1 setup, 3 reactivate and 5 complete.
+    const ABSENT_HOLDS: u32 = 0b10_1011;
+
+    // The conditions that hold of the plan under its input word, a bit for each: all six at once, since a plan asks for several.
+    fn holding(self, word: u32) -> u32
+        ensures { λ r. ⌜ ((c : Condition) → isSet (bitOf c) r ≡ holds c self word) ⌝ }
     {
-        let triggered = !is_set(self.manual as u32, k) | is_set(word, 8 + k);
-        let overridden = is_set(self.overridable as u32, k) & is_set(word, 14 + k);
-        (is_set(word, k) & triggered) | overridden
+        let present = self.present as u32;
+        let manual = self.manual as u32;
+        let overridable = self.overridable as u32;
+        let held = (word & (!manual | (word >> 8))) | (overridable & (word >> 14));
+        (present & held) | (!present & PlanEntry::ABSENT_HOLDS)
     }
 
     // Whether the condition holds of the plan under its input word.
     pub fn holds(self, c: Condition, word: u32) -> bool
         ensures { λ r. ⌜ r ≡ holds c self word ⌝ }
     {
-        let k = c.bit();
-        if is_set(self.present as u32, k) {
-            self.present_holds(k, word)
-        } else {
-            c.absent_holds()
-        }
+        is_set(self.holding(word), c.bit())
     }
 
     // Whether the plan's filter or setup is satisfiable under its input word.

@@ -1,30 +1,21 @@
 -- `stray` meets its contract: a bit of the byte that it tests is set where that condition is stray, and the six low bits are the
 -- conditions in their order. Assumes nothing.
 use mathlib.Core.Path.{_≡_, refl, sym, ap, _∙_}
-use mathlib.Core.Bool.{Bool, true, false, not, _&&_, _||_}
+use mathlib.Core.Bool.{Bool, true, false, not, _||_}
 use mathlib.Core.List.{map}
-use Prim.Native.Nat.{ℕ, zero, suc, _+_, _-_, _*_, _/_, _%_, _^_, _≤_, _<_, min, max}
+use Prim.Native.Nat.{ℕ, zero, suc, _+_, _-_, _*_, _/_, _%_, _^_, _<_}
 use native.Mathlib.Omega.{arith}
 use borrow.Author.Tests.{ne-eqb}
-use lib.Bits.{bitAnd, bitOr, and-step, or-step, and-shr, or-shr}
+use lib.Bits.{bitAnd, bitOr}
 use lib.Dec.{eqb}
 use Rattle.rules.specs.Bytes.{isSet}
 use Rattle.rules.specs.Lists.{some}
 use Rattle.rules.specs.Table.{bitOf, conditions}
 use Rattle.rules.specs.Answers.{strayAt}
 use Rattle.rules.specs.declared.PlanEntry.{PlanEntry}
-use Rattle.children.proofs.Bits.{bit}
+use Rattle.rules.proofs.Digits.{bit, digit, and-set, or-set, not-set}
 use Rattle.table.proofs.stray.Statement.{statement}
 use Rattle.table.proofs.stray.Tie as tie
-
--- a digit is told by whether it is 1
-told : (d : ℕ) → d < 2 → d ≡ bit (eqb d 1)
-told zero h = refl
-told (suc zero) h = refl
-told (suc (suc d)) h = absurd (omega arith)
-
-digit : (x : ℕ) → x % 2 ≡ bit (eqb (x % 2) 1)
-digit x = told (x % 2) (omega arith)
 
 -- a number is not 0 where its lowest digit is 1 or the rest is not 0
 not-zero : (b : Bool) (rest : ℕ) → not (eqb (bit b + 2 * rest) 0) ≡ (b || not (eqb rest 0))
@@ -50,48 +41,28 @@ low-bits x =
     )
     refl
 
--- a digit of the byte that is tested, from those of the bytes of the manual, overridable and present conditions
-one-digit : (m o p : Bool) → eqb (min (max (bit m) (bit o)) (1 - bit p)) 1 ≡ ((m || o) && not p)
-one-digit true true true = refl
-one-digit true true false = refl
-one-digit true false true = refl
-one-digit true false false = refl
-one-digit false true true = refl
-one-digit false true false = refl
-one-digit false false true = refl
-one-digit false false false = refl
-
-module _ (e : PlanEntry) where
+module _ (e : PlanEntry) (fits : e .present < 2 ^ 8) where
   -- the byte that is tested
   abbrev tested : ℕ
-  tested = bitAnd (bitOr (e .manual) (e .overridable)) (255 - e .present)
+  tested = bitAnd (bitOr (e .manual) (e .overridable)) (2 ^ 8 - 1 - e .present)
 
-  -- at a condition's bit, where the complement has flipped the digit
-  stray-bit : (k : ℕ) → (255 - e .present) / 2 ^ k % 2 ≡ 1 - e .present / 2 ^ k % 2 → isSet k tested ≡ strayAt e k
-  stray-bit k flipped =
-      let m = e .manual / 2 ^ k in
-      let o = e .overridable / 2 ^ k in
-      let p = e .present / 2 ^ k in
-      let x = (255 - e .present) / 2 ^ k in
-      let digits : tested / 2 ^ k % 2 ≡ min (max (bit (eqb (m % 2) 1)) (bit (eqb (o % 2) 1))) (1 - bit (eqb (p % 2) 1)) =
-      rw (and-shr (bitOr (e .manual) (e .overridable)) (255 - e .present) k, or-shr (e .manual) (e .overridable) k)
-      (omega (arith, flipped, and-step (bitOr m o) x, or-step m o, digit m, digit o, digit p)) in
-      ap (λ (d : ℕ). eqb d 1) digits ∙ one-digit (eqb (m % 2) 1) (eqb (o % 2) 1) (eqb (p % 2) 1)
+  stray-bit : (k : ℕ) → k < 8 → isSet k tested ≡ strayAt e k
+  stray-bit k h = simp (and-set, or-set, not-set 8 k (e .present) h fits)
+
+  stray-bits : not (eqb (tested % 64) 0) ≡ some (strayAt e) (map bitOf conditions)
+  stray-bits =
+      low-bits tested
+      ∙ simp (
+        stray-bit 0 (omega arith),
+        stray-bit 1 (omega arith),
+        stray-bit 2 (omega arith),
+        stray-bit 3 (omega arith),
+        stray-bit 4 (omega arith),
+        stray-bit 5 (omega arith),
+      )
 
 returns : tie.Need-returns
-returns c =
-    let e = c .before .before .args .e in
-    let fits : e .present ≤ 255 = omega (arith, c .struct-known2 .given) in
-    low-bits (tested e)
-    ∙ rw (
-      stray-bit e 0 (omega (arith, fits)),
-      stray-bit e 1 (omega (arith, fits)),
-      stray-bit e 2 (omega (arith, fits)),
-      stray-bit e 3 (omega (arith, fits)),
-      stray-bit e 4 (omega (arith, fits)),
-      stray-bit e 5 (omega (arith, fits)),
-    )
-    refl
+returns c = stray-bits (c .before .before .args .e) (omega (arith, c .struct-known2 .given))
 
 pub stray-spec : {M : Type 1} → statement M
 stray-spec = tie.close (tie.spec returns)
