@@ -1,10 +1,11 @@
--- Laws of the bits of a word: what each operation on words does to a bit. Assumes nothing.
-use mathlib.Core.Path.{_≡_, refl, ap, _∙_}
+-- Laws of the bits of a word: what each operation on words does to a bit, and when a word is not 0. Assumes nothing.
+use mathlib.Core.Path.{_≡_, refl, sym, ap, _∙_}
 use mathlib.Core.Bool.{Bool, true, false, cond, not, _&&_, _||_}
-use Prim.Native.Nat.{ℕ, zero, suc, _+_, _-_, _/_, _%_, _^_, _<_, min, max}
+use Prim.Native.Nat.{ℕ, zero, suc, _+_, _-_, _*_, _/_, _%_, _^_, _<_, min, max}
 use native.Mathlib.Nat.{pow-suc}
 use native.Mathlib.Numerals.{one-add}
 use native.Mathlib.Omega.{arith}
+use borrow.Author.Tests.{ne-eqb}
 use lib.Bits.{bitAnd, bitOr, and-step, or-step, and-shr, or-shr}
 use lib.Dec.{eqb}
 use lib.Pow.{shr-shr}
@@ -80,3 +81,14 @@ pub not-set : (w k x : ℕ) → k < w → x < 2 ^ w → isSet k (2 ^ w - 1 - x) 
 not-set w k x h f =
     set-by k (2 ^ w - 1 - x) (not (isSet k x))
     (flipped w k x h f ∙ ap (λ (d : ℕ). 1 - d) (digit (x / 2 ^ k)) ∙ not-bit (isSet k x))
+
+-- a number is not 0 where its lowest digit is 1 or the rest is not 0
+not-zero : (b : Bool) (rest : ℕ) → not (eqb (bit b + 2 * rest) 0) ≡ (b || not (eqb rest 0))
+not-zero true rest = ap not (ne-eqb (1 + 2 * rest) 0 (λ e. omega arith))
+not-zero false zero = refl
+not-zero false (suc rest) = ap not (ne-eqb (0 + 2 * suc rest) 0 (λ e. omega arith) ∙ sym (ne-eqb (suc rest) 0 (λ e. omega arith)))
+
+-- the lowest digit of y is that of x
+pub lowest-bit : (y x rest : ℕ) → y ≡ x % 2 + 2 * rest → not (eqb y 0) ≡ (eqb (x % 2) 1 || not (eqb rest 0))
+lowest-bit y x rest e =
+    ap (λ (z : ℕ). not (eqb z 0)) (e ∙ ap (λ (d : ℕ). d + 2 * rest) (digit x)) ∙ not-zero (eqb (x % 2) 1) rest

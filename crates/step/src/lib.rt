@@ -17,7 +17,7 @@ ghost use Rattle.children.specs.Sets.{setOf, Rooted, Surveyed};
 ghost use Rattle.table.specs.Facts.{RoomFor};
 ghost use Rattle.table.specs.Lowest.{Lowest};
 ghost use Rattle.step.specs.HandedIn.{breaksBy};
-ghost use Rattle.rules.specs.Words.{pickOf, pickAllowed, otherBits, satisfiedOnly, contradicts};
+ghost use Rattle.rules.specs.Words.{pickOf, pickAllowed, otherBits, contradicts};
 ghost use Rattle.rules.specs.Rest.{leastRest, statesAt};
 ghost use Rattle.rules.specs.Answers.{wrongWord, badWord, lentCheck, stepAnswer, stepStates, restAnswer, runAnswer, runStates};
 ghost use Rattle.step.specs.Calls.{Counted, Tabled, Called, Ready};
@@ -38,7 +38,6 @@ use rules::PlanState;
 use rules::Refusal;
 use rules::Rest;
 use rules::entry_at;
-use rules::is_set;
 use rules::parent_at;
 use rules::u16_at;
 use rules::word_at;
@@ -654,18 +653,12 @@ pub fn other_bits(x: u32) -> bool
     ((x >> 20) % 16 != 0) | ((x >> 30) % 4 != 0)
 }
 
-// Whether a word says that a filter or a setup is satisfied but not satisfiable.
-fn satisfied_only(c: Condition, x: u32) -> bool
-    ensures { λ r. ⌜ r ≡ satisfiedOnly c x ⌝ }
-{
-    let k = c.bit();
-    is_set(x, k) & !is_set(x, 6 + k)
-}
-
+// Whether a word says of the filter or of the setup that its pattern is satisfied, and that it no longer can be. Both are asked at once:
+// bits 0 and 1 say that they are satisfied, and bits 6 and 7, which the shift brings under them, that they still can be.
 pub fn word_contradicts(x: u32) -> bool
     ensures { λ r. ⌜ r ≡ contradicts x ⌝ }
 {
-    satisfied_only(Condition::Filter, x) | satisfied_only(Condition::Setup, x)
+    (x & !(x >> 6)) % 4 != 0
 }
 
 // Whether a plan with so many children may make a pick.

@@ -1,11 +1,10 @@
 -- `stray` meets its contract: a bit of the byte that it tests is set where that condition is stray, and the six low bits are the
 -- conditions in their order. Assumes nothing.
-use mathlib.Core.Path.{_≡_, refl, sym, ap, _∙_}
-use mathlib.Core.Bool.{Bool, true, false, not, _||_}
+use mathlib.Core.Path.{_≡_, refl, _∙_}
+use mathlib.Core.Bool.{not}
 use mathlib.Core.List.{map}
-use Prim.Native.Nat.{ℕ, zero, suc, _+_, _-_, _*_, _/_, _%_, _^_, _<_}
+use Prim.Native.Nat.{ℕ, _-_, _/_, _%_, _^_, _<_}
 use native.Mathlib.Omega.{arith}
-use borrow.Author.Tests.{ne-eqb}
 use lib.Bits.{bitAnd, bitOr}
 use lib.Dec.{eqb}
 use Rattle.rules.specs.Bytes.{isSet}
@@ -13,20 +12,9 @@ use Rattle.rules.specs.Lists.{some}
 use Rattle.rules.specs.Table.{bitOf, conditions}
 use Rattle.rules.specs.Answers.{strayAt}
 use Rattle.rules.specs.declared.PlanEntry.{PlanEntry}
-use Rattle.rules.proofs.Digits.{bit, digit, and-set, or-set, not-set}
+use Rattle.rules.proofs.Digits.{and-set, or-set, not-set, lowest-bit}
 use Rattle.table.proofs.stray.Statement.{statement}
 use Rattle.table.proofs.stray.Tie as tie
-
--- a number is not 0 where its lowest digit is 1 or the rest is not 0
-not-zero : (b : Bool) (rest : ℕ) → not (eqb (bit b + 2 * rest) 0) ≡ (b || not (eqb rest 0))
-not-zero true rest = ap not (ne-eqb (1 + 2 * rest) 0 (λ e. omega arith))
-not-zero false zero = refl
-not-zero false (suc rest) = ap not (ne-eqb (0 + 2 * suc rest) 0 (λ e. omega arith) ∙ sym (ne-eqb (suc rest) 0 (λ e. omega arith)))
-
--- the lowest digit of y is that of x
-lowest-bit : (y x rest : ℕ) → y ≡ x % 2 + 2 * rest → not (eqb y 0) ≡ (eqb (x % 2) 1 || not (eqb rest 0))
-lowest-bit y x rest e =
-    ap (λ (z : ℕ). not (eqb z 0)) (e ∙ ap (λ (d : ℕ). d + 2 * rest) (digit x)) ∙ not-zero (eqb (x % 2) 1) rest
 
 -- the conditions' bits of a byte
 low-bits : (x : ℕ) → not (eqb (x % 64) 0) ≡ some (λ k. isSet k x) (map bitOf conditions)
