@@ -14,7 +14,7 @@
 #include "asbru.h"
 #include "plain.h"
 
-enum { TURNS = 7, MOST_PLANS = 256 };
+enum { TURNS = 25, MOST_PLANS = 256 };
 
 static uint64_t seed = 88172645463325252ull;
 
