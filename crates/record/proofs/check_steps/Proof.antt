@@ -134,7 +134,7 @@ choose-requires c κs =
 
 -- no word of the step is wrong, and plan p is compared
 compared : (c : tie.In-loop Inv-loop μ-loop Inv-search μ-search) → Going (c .before .before .before .before .before .before .before .before .lowest-wrong-word .result) (c .before .before .before .before .before .before .before .before .before .before .before .before .before .before .before .before .before .before .before .before .args .n) (c .before .loop .p)
-compared c = going _ _ _ (c .loop-test .taken)
+compared c = going (c .before .before .before .before .before .before .before .before .lowest-wrong-word .result) (c .before .before .before .before .before .before .before .before .before .before .before .before .before .before .before .before .before .before .before .before .args .n) (c .before .loop .p) (c .loop-test .taken)
 
 next-shown-requires : tie.Need-next-shown-requires Inv-loop μ-loop Inv-search μ-search
 next-shown-requires c κs =
