@@ -1,4 +1,5 @@
--- Laws for the proofs of this crate.
+-- Laws for the proofs of this crate, and that its answer is one.
 pub mod Inputs
 pub mod Decimals
 pub mod Texts
+pub mod Unique

@@ -23,7 +23,7 @@ abbrev pub Alike : ℕ → List ℕ → List ℕ → Type 0
 Alike n a b = (k : ℕ) → k < n → getD a k 0 ≡ getD b k 0
 
 -- two lists that were written from one below n only, and alike there, are one
-written-once : (n : ℕ) (old new new′ : List ℕ) → Beyond n old new → Beyond n old new′ → Alike n new new′ → new ≡ new′
+pub written-once : (n : ℕ) (old new new′ : List ℕ) → Beyond n old new → Beyond n old new′ → Alike n new new′ → new ≡ new′
 written-once n old new new′ b b′ below = ext-getD 0 new new′ (one-answer (b .long) (b′ .long)) (λ k l. at k (decLt k n))
   where
     at : (k : ℕ) → Dec (k < n) → getD new k 0 ≡ getD new′ k 0

@@ -33,6 +33,14 @@ pub record Beyond (n : ℕ) (old new : List ℕ) : Type 0 where
   pub long : length new ≡ length old
   pub rest : (k : ℕ) → n ≤ k → getD new k 0 ≡ getD old k 0
 
+-- the first k numbers of a list are 0
+abbrev pub Empty : ℕ → List ℕ → Type 0
+Empty k xs = (i : ℕ) → i < k → getD xs i 0 ≡ 0
+
+-- the first n bytes are codes of states
+abbrev pub Codes : ℕ → List ℕ → Type 0
+Codes n s = (p : ℕ) → p < n → byteAt s p < 9
+
 -- the ranks of the first n plans, and their numbers of children among these
 pub record Ranked (t : List ℕ) (n : ℕ) (ranks counts : List ℕ) : Type 0 where
   pub ranked : (p : ℕ) → p < n → byteAt ranks p ≡ rank t p

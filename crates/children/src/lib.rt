@@ -3,8 +3,8 @@
 ghost use mathlib.Core.Path.{_≡_};
 ghost use Prim.Native.Nat.{ℕ, _+_, _*_, _^_, _<_, _≤_};
 ghost use mathlib.Core.Bool.{cond};
-ghost use lib.ListN.{length, getD};
-ghost use Rattle.children.specs.Sets.{Rooted, Beyond, Ranked, Narrow, Collected, Surveyed};
+ghost use lib.ListN.{length};
+ghost use Rattle.children.specs.Sets.{Rooted, Beyond, Empty, Codes, Ranked, Narrow, Collected, Surveyed};
 ghost use Rattle.rules.specs.Bytes.{byteAt};
 ghost use Rattle.rules.specs.Table.{entry, named};
 use rules::entry_at;
@@ -60,9 +60,9 @@ fn bit_if(set: bool, rank: u8) -> u64
 pub fn survey(table: &[u8], n: usize, ranks: &[u8], states: &[u8], sets: &mut [u64])
     requires rooted { ⌜ Rooted (now table) n ⌝ }
     requires narrow { ⌜ Narrow (now table) n (now ranks) ⌝ }
-    requires codes { ⌜ ((p : ℕ) → p < n → byteAt (now states) p < 9) ⌝ }
+    requires codes { ⌜ Codes n (now states) ⌝ }
     requires room { ⌜ (n ≤ length (now ranks)) × (n ≤ length (now states)) × (n * 9 ≤ length (now sets)) ⌝ }
-    requires empty { ⌜ ((i : ℕ) → i < n * 9 → getD (now sets) i 0 ≡ 0) ⌝ }
+    requires empty { ⌜ Empty (n * 9) (now sets) ⌝ }
     ensures found { λ _. ⌜ Surveyed (now (table .entry)) (now (states .entry)) n (now (sets .exit)) ⌝ }
     ensures rest { λ _. ⌜ Beyond (n * 9) (now (sets .entry)) (now (sets .exit)) ⌝ }
 {

@@ -12,13 +12,13 @@ use lib.Dec.{T, T-not, eqb, eqb→eq, eqb-refl, leb, leb→le, nleb→lt, lt→l
 use borrow.Author.Tests.{ne-eqb}
 use Rattle.rules.specs.Lists.{some, noPlan, first}
 use Rattle.rules.specs.States.{stateAt, is}
-use Rattle.rules.specs.Table.{entry, bodyOf, children, rank}
+use Rattle.rules.specs.Table.{planCount, entry, bodyOf, isAnyOrder, children, rank}
 use Rattle.rules.specs.Words.{pickAllowed}
 use Rattle.rules.specs.Step.{chosen}
 use Rattle.rules.specs.declared.Body.{Body}
 use Rattle.rules.specs.declared.Body.the-variants.{Leaf, Sequential, Parallel, AnyOrder, Unordered}
 use Rattle.rules.specs.declared.PlanState.the-variants.{Ready, Activated}
-use Rattle.demands.specs.Witness.{last, firstMarked, isAnyOrder, activatedChild, witness}
+use Rattle.demands.specs.Witness.{last, firstMarked, activatedChild, witness}
 use Rattle.demands.proofs.Tests.{both, left, right, decide, is-true, cond-by}
 use Rattle.demands.proofs.Lists.{Found, found-some, first-found, first-or-none, last-found, Sorted, first-le, last-ge}
 use Rattle.demands.proofs.Children.{member-child, sorted-children, rank-small, at-rank}
@@ -113,6 +113,11 @@ module _ (t s : List ℕ) (pick : ℕ → ℕ) (q : ℕ) where
           cond-by (ReadyChild t s q) (isReady s c) (λ r. record { member = m; passes = r }) (λ r. fallback)
       go c (inr e) = cond-by (ReadyChild t s q) (isReady s c) (λ r. rw e fallback) (λ r. fallback)
 
+  -- only the plan's own pick is read
+  pub same-chosen : (other : ℕ → ℕ) → pick q ≡ other q → chosen t s pick q ≡ chosen t s other q
+  unfolding chosen
+  same-chosen other e = rw e refl
+
   -- a plan that is not Ready is not chosen
   pub not-chosen : (p : ℕ) → p < noPlan → isReady s p ≡ false → eqb p (chosen t s pick q) ≡ false
   unfolding chosen
@@ -160,6 +165,16 @@ module _ (t s shown : List ℕ) (q : ℕ) where
   unfolding witness
   witness-chooses b r =
       chosen-rank t s (witness t s shown) q (activatedChild t s shown q) (activated-found r) (rw (b, is-true ready r))
+
+  -- it is below 64, as the plans' ranks are
+  pub witness-narrow : ((c : ℕ) → c < planCount t → rank t c < 64) → witness t s shown q < 64
+  unfolding witness
+  witness-narrow narrow = go (isAnyOrder (bodyOf (entry t q)))
+    where
+      go : (b : Bool) → cond (b && ready) (rank t (activatedChild t s shown q)) 0 < 64
+      go false = omega arith
+      go true =
+          cond-by (λ x. x < 64) ready (λ r. narrow _ (member-child t q _ (activated-found r .member) .within)) (λ r. omega arith)
 
   -- it is a pick that words may hold
   pub witness-allowed :

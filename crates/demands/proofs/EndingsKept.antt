@@ -23,7 +23,7 @@ use Rattle.demands.proofs.Children.{sub-plan, after-parent}
 use Rattle.demands.proofs.States.{is-it, states, pairs}
 use Rattle.demands.proofs.Moves.{dormant, begins-anew, keeps-ending}
 use Rattle.demands.proofs.Step.{next, state-step}
-use Rattle.demands.proofs.HandedIn.{Valid, passes-valid}
+use Rattle.demands.proofs.PassedStates.{Valid, passes-valid}
 use Rattle.demands.proofs.Went.{root-moved, child-moved, plan-moved}
 use Rattle.demands.proofs.Accepted.{accepted-step}
 

@@ -13,7 +13,7 @@ pub mod Choice
 pub mod SameStep
 pub mod Witness
 pub mod PlanByPlan
-pub mod HandedIn
+pub mod PassedStates
 pub mod Went
 pub mod Valid
 pub mod Accepted

@@ -17,7 +17,7 @@ use Rattle.rules.specs.declared.PlanState.{PlanState}
 use Rattle.rules.specs.declared.Verdict.the-variants.{Accepted}
 use Rattle.demands.proofs.Numbers.{not-lower}
 use Rattle.demands.proofs.States.{states}
-use Rattle.demands.proofs.HandedIn.{Valid, passes-valid}
+use Rattle.demands.proofs.PassedStates.{Valid, passes-valid}
 use Rattle.demands.proofs.Accepted.{accepted-step}
 
 -- what passes check 11 has it

@@ -9,7 +9,7 @@ use Rattle.rules.specs.Demands.{OnlyWhileParent}
 use Rattle.rules.specs.declared.PlanState.the-variants.{Activated}
 use Rattle.rules.specs.declared.Verdict.the-variants.{Accepted}
 use Rattle.demands.proofs.States.{is-it, states}
-use Rattle.demands.proofs.HandedIn.{passes-valid}
+use Rattle.demands.proofs.PassedStates.{passes-valid}
 use Rattle.demands.proofs.Accepted.{accepted-step}
 
 -- by check 11, which an accepted step keeps passed, an Activated child suits an Activated parent only

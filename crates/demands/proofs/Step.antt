@@ -11,7 +11,7 @@ use Rattle.rules.specs.Bytes.{byteAt}
 use Rattle.rules.specs.States.{code, stateOf, stateAt}
 use Rattle.rules.specs.Table.{planCount, parent}
 use Rattle.rules.specs.Demands.{SubPlan}
-use Rattle.rules.specs.Step.{moveOf, ordersIf, newState, stepFirst, stepBy}
+use Rattle.rules.specs.Step.{rootOrders, moveOf, ordersIf, newState, stepFirst, stepBy}
 use Rattle.rules.specs.declared.Orders.{Orders}
 use Rattle.rules.specs.declared.PlanState.{PlanState}
 use Rattle.rules.specs.declared.PlanState.the-variants.{Activated}
@@ -28,10 +28,6 @@ module _ (k : ℕ) (l m : List ℕ) (same : take k l ≡ take k m) (p : ℕ) (h 
   pub same-state : stateAt l p ≡ stateAt m p
   unfolding stateAt
   same-state = ap stateOf same-byte
-
--- what moves the root
-abbrev pub rootOrders : Orders
-rootOrders = record { considers = true; activates = true; retries = false }
 
 module _ (t s w : List ℕ) (choice : ℕ → ℕ) where
   -- what plan q, whose new state is `now`, tells its child p, and how that moves

@@ -39,7 +39,7 @@ use Rattle.demands.proofs.Moves.{
 }
 use Rattle.demands.proofs.Step.{told, next, length-step, byte-step, state-step}
 use Rattle.demands.proofs.Orders.{activates-while, activates-chosen, considers-next, retries-again}
-use Rattle.demands.proofs.HandedIn.{undone, Valid, passes-valid, valid-passes}
+use Rattle.demands.proofs.PassedStates.{undone, Valid, passes-valid, valid-passes}
 use Rattle.demands.proofs.Went.{child-moved, SomeMove, plan-moved}
 
 -- children of a plan that has not begun, or is Rejected, are Inactive

@@ -5,7 +5,7 @@ use mathlib.Core.List.{List}
 use Rattle.rules.specs.States.{stateAt}
 use Rattle.rules.specs.Table.{planCount, parent, entry}
 use Rattle.rules.specs.Words.{word}
-use Rattle.rules.specs.Step.{tooManyLost, childrenComplete, moveOf}
+use Rattle.rules.specs.Step.{rootOrders, tooManyLost, childrenComplete, moveOf}
 use Rattle.rules.specs.Demands.{SubPlan}
 use Rattle.rules.specs.declared.Orders.{Orders}
 use Rattle.rules.specs.declared.PlanState.{PlanState}
@@ -13,7 +13,7 @@ use Rattle.rules.specs.declared.PlanState.the-variants.{Activated}
 use Rattle.rules.proofs.Tree.{Tree}
 use Rattle.demands.proofs.Children.{sub-plan}
 use Rattle.demands.proofs.Moves.{Moved, move-moved}
-use Rattle.demands.proofs.Step.{told, rootOrders, next, next-root, next-child}
+use Rattle.demands.proofs.Step.{told, next, next-root, next-child}
 
 module _ (t s w : List ℕ) (choice : ℕ → ℕ) where
   as-told : (parent : PlanState) (o : Orders) (p : ℕ) → Moved parent o (stateAt s p) (moveOf t s w choice parent o p)

@@ -24,7 +24,7 @@ use Rattle.demands.proofs.Children.{child-member, member-child}
 use Rattle.demands.proofs.States.{is-it}
 use Rattle.demands.proofs.Step.{same-state, next, state-step, next-child}
 use Rattle.demands.proofs.Orders.{Chooses, shows-chosen}
-use Rattle.demands.proofs.Choice.{isReady, ReadyChild, chosen-found, activated-agrees, witness-chooses, witness-allowed}
+use Rattle.demands.proofs.Choice.{isReady, ReadyChild, chosen-found, activated-agrees, witness-chooses, witness-allowed, witness-narrow}
 use Rattle.demands.proofs.SameStep.{same-step}
 
 some-ready : (t s : List ℕ) (q p : ℕ) → SubPlan t q p → stateAt s p ≡ Ready → T (some (isReady s) (children t q))
@@ -75,6 +75,10 @@ has-children t passed q l b =
     go : (n : ℕ) → not (Bool·beq false (eqb n 0)) ≡ false → 0 < n
     go zero e = absurd (true≢false e)
     go (suc n) e = omega arith
+
+-- a pick of the witness is a rank, or 0
+pub witness-small : (t s shown : List ℕ) → tableCheck t ≡ Done → (q : ℕ) → q < planCount t → witness t s shown q < 64
+witness-small t s shown done q l = witness-narrow t s shown q (tree t (passes t done) .narrow)
 
 pub witness-explains :
     (t s w shown : List ℕ) → tableCheck t ≡ Done → (k : ℕ) → k ≤ planCount t

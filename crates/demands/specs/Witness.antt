@@ -4,9 +4,7 @@ use mathlib.Core.Bool.{Bool, true, false, cond, _&&_}
 use mathlib.Core.List.{List, [], _∷_}
 use Rattle.rules.specs.Lists.{some, noPlan, first}
 use Rattle.rules.specs.States.{stateAt, is}
-use Rattle.rules.specs.Table.{entry, bodyOf, children, rank}
-use Rattle.rules.specs.declared.Body.{Body}
-use Rattle.rules.specs.declared.Body.the-variants.{Leaf, Sequential, Parallel, AnyOrder, Unordered}
+use Rattle.rules.specs.Table.{entry, bodyOf, isAnyOrder, children, rank}
 use Rattle.rules.specs.declared.PlanState.the-variants.{Ready, Activated}
 
 -- the last number of a list that passes a test, or `noPlan`
@@ -19,13 +17,6 @@ abbrev pub firstMarked : (ℕ → Bool) → (ℕ → Bool) → List ℕ → ℕ
 firstMarked candidate marked ks =
     let both : ℕ → Bool = (λ c. candidate c && marked c) in
     cond (some both ks) (first both ks) (last candidate ks)
-
-abbrev pub isAnyOrder : Body → Bool
-isAnyOrder Leaf = false
-isAnyOrder Sequential = false
-isAnyOrder Parallel = false
-isAnyOrder AnyOrder = true
-isAnyOrder Unordered = false
 
 module _ (t s shown : List ℕ) where
   -- the child of q that the states shown let q have activated: the lowest Ready child shown Activated; where there is none, the

@@ -5,16 +5,16 @@ use native.Mathlib.Omega.{arith}
 use native.Mathlib.Numerals.{add-one}
 use mathlib.Core.Path.{_≡_, refl, sym, ap, _∙_}
 use mathlib.Core.Bool.{Bool, true, false, _&&_, true≢false}
-use mathlib.Core.Logic.{_↔_, _⊎_, inl, inr}
+use mathlib.Core.Logic.{_⊎_, inl, inr}
 use mathlib.Core.List.{List, _∷_}
 use lib.Dec.{eqb, ltb}
 use lib.ListN.{length, take, drop, replicate, length-drop, length-replicate}
-use lib.Seq.{length-take-le}
+use lib.Seq.{length-take-le, getD-take}
 use borrow.Author.Tests.{eqb-true, eq-eqb, ltb-true, ltb-false}
 use Rattle.rules.specs.Bytes.{byteAt}
 use Rattle.rules.specs.States.{code}
 use Rattle.rules.specs.Table.{planCount}
-use Rattle.rules.specs.Step.{newState}
+use Rattle.rules.specs.Step.{stepUnder}
 use Rattle.rules.specs.Record.{stepCount, wordsOf, statesOf, statesBefore, ExplainedFirst}
 use Rattle.rules.specs.Answers.{badRecordWord, tableCheck, recordCheck, wordsCheck, StepPasses, Judged, badWords, unexplained, accepted}
 use Rattle.rules.specs.declared.Refusal.the-variants.{Word, Unexplained}
@@ -26,12 +26,15 @@ use Rattle.rules.proofs.Tree.{passes, tree}
 use Rattle.children.specs.Sets.{Surveyed}
 use Rattle.table.specs.Lowest.{Lowest}
 use Rattle.table.proofs.Reading.{found-at, found-none}
-use Rattle.step.specs.Calls.{Ready}
-use Rattle.demands.specs.Witness.{activatedChild}
+use Rattle.moves.specs.StepFacts.{picksOf}
+use Rattle.lent.specs.Calls.{MayMove}
+use Rattle.demands.specs.Witness.{witness}
 use Rattle.demands.proofs.Accepted.{table-done, before-passes}
 use Rattle.demands.proofs.Numbers.{last-or}
-use Rattle.demands.proofs.PlanByPlan.{explained-none, explained-fewer, explained-next}
-use Rattle.record.specs.Steps.{Lies, Sound}
+use Rattle.demands.proofs.Witness.{witness-small}
+use Rattle.demands.proofs.PlanByPlan.{explained-fewer, same-picks, explained-so-far}
+use Rattle.demands.proofs.PlanByPlan.{unexplained as no-picks}
+use Rattle.record.specs.Steps.{Lies, Witnessed, Sound}
 use Rattle.record.proofs.Form.{few, lies}
 
 -- the first k bytes of a buffer of zeros
@@ -48,8 +51,8 @@ module _ {t r ranks names : List ℕ} (sound : Sound t r ranks names) {n : ℕ} 
   idle-states : take n (replicate 256 (code Inactive)) ≡ statesBefore t r 0
   idle-states = idle-part n 256 (code Inactive) idle-few ∙ ap (λ (k : ℕ). replicate k (code Inactive)) whole
 
-  pub idle-ready : Ready t (take n (replicate 256 (code Inactive))) (replicate (4 * planCount t) 0) ranks names
-  idle-ready =
+  pub idle-moves : MayMove t (take n (replicate 256 (code Inactive))) (replicate (4 * planCount t) 0) ranks names
+  idle-moves =
       record {
         prepared = sound .prepared;
         passes = rw idle-states (before-passes t r (table-done t r (sound .done)) 0 (λ j l. absurd (omega arith)));
@@ -114,19 +117,24 @@ module _ {t r ranks names : List ℕ} {n steps i : ℕ} (here : Here t r ranks n
   shown-long shown e = rw (e, ← here .whole) (part-long r (8 + i * (5 * n) + 4 * n) n (omega (arith, there)))
 
   -- its plans may move
-  pub ready : (old words : List ℕ) → old ≡ statesBefore t r i → words ≡ wordsOf t r i → Ready t old words ranks names
-  ready old words is-old is-words =
+  pub may-move : (old words : List ℕ) → old ≡ statesBefore t r i → words ≡ wordsOf t r i → MayMove t old words ranks names
+  may-move old words is-old is-words =
       record {
         prepared = here .sound .prepared;
         passes = rw is-old (before-passes t r done i (here .before));
         words = rw (← here .whole) (words-long words is-words);
       }
 
+  -- the words that are kept are those of the states before it
+  pub before-surveyed :
+      (old sets : List ℕ) → old ≡ statesBefore t r i → Surveyed t (statesBefore t r i) n sets → Surveyed t old n sets
+  before-surveyed old sets is-old surveyed = rw is-old surveyed
+
   -- and, once they have moved to the states shown, from these
-  pub shown-ready :
+  pub shown-moves :
       (words shown : List ℕ) → words ≡ wordsOf t r i → shown ≡ statesOf t r i → ((j : ℕ) → j < i + 1 → StepPasses t r j)
-      → Ready t shown words ranks names
-  shown-ready words shown is-words is-shown before-next =
+      → MayMove t shown words ranks names
+  shown-moves words shown is-words is-shown before-next =
       record {
         prepared = here .sound .prepared;
         passes = rw is-shown (before-passes t r done (suc i) (λ j l. before-next j (omega arith)));
@@ -153,28 +161,45 @@ module _ {t r ranks names : List ℕ} {n steps i : ℕ} (here : Here t r ranks n
     unfolding wordsCheck
     words-pass l = pass-at-last _ _ (found-none t n (here .whole) _ p lowest-word l)
 
-  -- check 15: plan p, where some picks explain the plans before it
-  module _ (old words shown : List ℕ) (is-old : old ≡ statesBefore t r i) (is-words : words ≡ wordsOf t r i)
-      (is-shown : shown ≡ statesOf t r i) (p b : ℕ) (within : p < n)
-      (moves : b ≡ code (newState t old words (activatedChild t old shown) shown p)) (so-far : ExplainedFirst t r i p) where
-    next : ExplainedFirst t r i (suc p) ↔ (b ≡ byteAt shown p)
-    next =
-        let long : p < length shown = omega (arith, shown-long shown is-shown) in
-        let in-part : p < length (statesOf t r i) = rw is-shown at long in
-        rw (moves, is-old, is-words, is-shown)
-        (explained-next t (statesBefore t r i) (wordsOf t r i) (statesOf t r i) done p (omega (arith, here .whole)) in-part so-far)
+  -- check 15: the witness, whose picks are ranks
+  pub picks-small : (old shown picks : List ℕ) → Witnessed t old shown picks → (q : ℕ) → q < n → picksOf picks q < 64
+  picks-small old shown picks witnessed q l =
+      let inside : q < planCount t = omega (arith, here .whole) in
+      rw (witnessed .pick q inside) (witness-small t old shown done q inside)
 
-    pub goes-on : b ≡ byteAt shown p → ExplainedFirst t r i (p + 1)
-    goes-on e = rw (add-one p) (next .1 e)
+  -- the new states under it beside the states shown
+  module _
+      (old words shown picks new : List ℕ)
+      (is-old : old ≡ statesBefore t r i)
+      (is-words : words ≡ wordsOf t r i)
+      (is-shown : shown ≡ statesOf t r i)
+      (witnessed : Witnessed t old shown picks)
+      (moved : take n new ≡ stepUnder t old words (picksOf picks))
+    where
+      byte-moved : (p : ℕ) → p < n → byteAt new p ≡ byteAt (stepUnder t old words (witness t old shown)) p
+      byte-moved p l =
+          sym (getD-take n new p 0 l)
+          ∙ ap (λ (x : List ℕ). byteAt x p)
+          (moved ∙ same-picks t old words (tree t (passes t done)) (picksOf picks) (witness t old shown) (witnessed .pick))
 
-    pub stops-at-plan : (b ≡ byteAt shown p → ⊥) → wordsCheck t r i ≡ Done → Judged t r (verdict.Refused (Unexplained (i + 1) p))
-    stops-at-plan differs words-done =
-        rw (add-one i)
-        (unexplained i p good inner (here .before) words-done (omega (arith, here .whole))
-        (λ j l. explained-fewer t _ _ _ (suc j) p l so-far) (λ e. differs (next .0 e)))
+      -- the plans passed show the same bytes: some picks explain them
+      pub explained : (p : ℕ) → p ≤ n → ((k : ℕ) → k < p → byteAt new k ≡ byteAt shown k) → ExplainedFirst t r i p
+      explained p l same =
+          rw (← is-old, ← is-words, ← is-shown)
+          (explained-so-far t old words shown done p (omega (arith, here .whole)) (omega (arith, shown-long shown is-shown))
+          (λ k lk. sym (byte-moved k (omega arith)) ∙ same k lk))
 
-  pub none-so-far : ExplainedFirst t r i 0
-  none-so-far = explained-none t (statesBefore t r i) (wordsOf t r i) (statesOf t r i) done
+      -- plan p shows another byte
+      pub stops-at-plan :
+          (p : ℕ) → p < n → ((k : ℕ) → k < p → byteAt new k ≡ byteAt shown k) → (byteAt new p ≡ byteAt shown p → ⊥)
+          → wordsCheck t r i ≡ Done
+          → Judged t r (verdict.Refused (Unexplained (i + 1) p))
+      stops-at-plan p l same differs words-done =
+          rw (add-one i)
+          (unexplained i p good inner (here .before) words-done (omega (arith, here .whole))
+          (λ j lj. explained-fewer t _ _ _ (suc j) p lj (explained p (omega arith) same))
+          (rw (← is-old, ← is-words, ← is-shown)
+          (no-picks t old words shown done p (omega (arith, here .whole)) (λ e. differs (byte-moved p l ∙ e)))))
 
   -- all plans are explained: the step passes
   pub one-more : (p : ℕ) → p ≡ n → wordsCheck t r i ≡ Done → ExplainedFirst t r i p → (j : ℕ) → j < i + 1 → StepPasses t r j

@@ -3,14 +3,14 @@ use Prim.Native.Nat.{ℕ, zero, suc, _+_, _*_, _≤_, _<_}
 use mathlib.Core.Path.{_≡_}
 use mathlib.Core.Bool.{Bool, false, _||_}
 use mathlib.Core.List.{List}
-use lib.Dec.{eqb}
 use lib.ListN.{length}
-use Rattle.rules.specs.Bytes.{byteAt}
-use Rattle.rules.specs.Table.{planCount, parent}
+use Rattle.rules.specs.Table.{planCount}
 use Rattle.rules.specs.Answers.{recordCheck}
 use Rattle.rules.specs.declared.Outcome.the-variants.{Done}
 use Rattle.table.specs.Facts.{Prepared}
-use Rattle.demands.specs.Witness.{activatedChild}
+use Rattle.children.specs.Sets.{Rooted, Narrow}
+use Rattle.moves.specs.StepFacts.{picksOf}
+use Rattle.demands.specs.Witness.{witness}
 
 -- step i of a record r of n plans lies in it
 abbrev pub Lies : List ℕ → ℕ → ℕ → Type 0
@@ -21,11 +21,16 @@ unfoldable pub anyBelow : (ℕ → Bool) → ℕ → Bool
 anyBelow f zero = false
 anyBelow f (suc n) = anyBelow f n || f n
 
--- for each plan with a child p the plan that tells whether p is the child that the states shown let its parent have activated
-pub record Chosen (t s shown chosen : List ℕ) : Type 0 where
-  pub tells :
-      (p : ℕ) → 0 < p → p < planCount t
-      → eqb p (byteAt chosen (parent t p)) ≡ eqb p (activatedChild t s shown (parent t p))
+-- the picks of the plans are the witness: those that explain the states shown if any do
+pub record Witnessed (t s shown picks : List ℕ) : Type 0 where
+  pub pick : (q : ℕ) → q < planCount t → picksOf picks q ≡ witness t s shown q
+
+-- a table's n plans, their parents and ranks
+pub record Ordered (t : List ℕ) (n : ℕ) (ranks : List ℕ) : Type 0 where
+  pub whole : n ≡ planCount t
+  pub rooted : Rooted t n
+  pub narrow : Narrow t n ranks
+  pub ranks-room : n ≤ length ranks
 
 -- a table that passes, its facts, and a record of good form
 pub record Sound (t r ranks names : List ℕ) : Type 0 where

@@ -6,32 +6,40 @@ ghost use Prim.Native.Nat.{ℕ, _+_, _*_, _<_, _≤_};
 ghost use lib.ListN.{length, take, replicate};
 ghost use Rattle.rules.specs.States.{code};
 ghost use Rattle.rules.specs.Table.{planCount};
-ghost use Rattle.rules.specs.Step.{newState};
 ghost use Rattle.rules.specs.Record.{stepCount, wordsOf, statesOf, statesBefore};
 ghost use Rattle.rules.specs.Answers.{badRecordWord, wrongHeader, Judged};
-ghost use Rattle.children.specs.Sets.{Rooted};
 ghost use Rattle.table.specs.Facts.{Prepared};
 ghost use Rattle.table.specs.Lowest.{Lowest};
-ghost use Rattle.step.specs.Scene.{Scene};
-ghost use Rattle.demands.specs.Witness.{activatedChild};
 ghost use Rattle.rules.specs.declared.PlanState.the-variants.{Inactive};
-ghost use Rattle.record.specs.Steps.{Lies, anyBelow, Chosen, Sound};
+ghost use Rattle.record.specs.Steps.{Lies, anyBelow, Witnessed, Ordered, Sound};
 use children::resurvey;
 use children::survey;
+use lent::wrong_word_if;
 use rules::Outcome;
 use rules::PlanState;
 use rules::Refusal;
 use rules::Verdict;
+use rules::entry_at;
 use rules::parent_at;
+use rules::pick_of;
 use rules::u16_at;
 use rules::word_at;
-use step::next_child;
-use step::next_root;
-use step::other_bits;
-use step::pick_of;
-use step::word_contradicts;
+use step::advance;
 use table::has_mark;
 use table::read_table;
+
+// Whether a record can come from the rules under a table: accepted with its number of steps, or refused at the first place.
+pub fn check(table: &[u8], record: &[u8]) -> Verdict
+    ensures { λ r. ⌜ Judged (now (table .entry)) (now («record» .entry)) r ⌝ }
+{
+    let mut ranks = [0u8; 256];
+    let mut counts = [0u8; 256];
+    let mut names = [0u64; 256];
+    match read_table(table, &mut ranks, &mut counts, &mut names) {
+        Outcome::Refused(why) => Verdict::Refused(why),
+        Outcome::Done => check_record(table, &ranks, &names, record),
+    }
+}
 
 // The words part of step i.
 fn words_of(record: &[u8], n: usize, i: usize) -> &[u8]
@@ -70,7 +78,7 @@ fn wrong_word(words: &[u8], p: usize) -> bool
     ensures { λ r. ⌜ r ≡ badRecordWord (now (words .entry)) p ⌝ }
 {
     let x = word_at(words, p);
-    other_bits(x) | (pick_of(x) != 0) | word_contradicts(x)
+    wrong_word_if(x, pick_of(x) == 0)
 }
 
 // Check 12: whether one of the first n words is wrong. It has no branch, so that the compiler can look at several words at once: in
@@ -104,54 +112,39 @@ fn lowest_wrong_word(words: &[u8], n: usize) -> usize
     p
 }
 
-// For each plan the child that the states shown let it have activated: the lowest Ready one that is shown Activated, else the highest
-// Ready one; 0, which is nobody's child, where no child is Ready.
-fn choose(table: &[u8], n: usize, old: &[u8], shown: &[u8], chosen: &mut [u8])
-    requires table { ⌜ (0 < n) × (n ≡ planCount (now table)) × Rooted (now table) n ⌝ }
-    requires room { ⌜ (n ≤ length (now old)) × (n ≤ length (now shown)) × (n ≤ length (now chosen)) ⌝ }
-    ensures { λ _. ⌜ Chosen (now (table .entry)) (now (old .entry)) (now (shown .entry)) (now (chosen .exit)) ⌝ }
+// The picks that explain the states shown, if any do: of each any-order plan the rank of its lowest Ready child that is shown Activated,
+// else of its highest Ready child; 0 where no child is Ready, and off any-order. `kept` has the state in which the child so picked is
+// shown: once that is Activated, the pick stands.
+fn find_picks(
+    table: &[u8],
+    n: usize,
+    ranks: &[u8],
+    old: &[u8],
+    shown: &[u8],
+    picks: &mut [u8],
+    kept: &mut [u8],
+)
+    requires table { ⌜ Ordered (now table) n (now ranks) ⌝ }
+    requires shown { ⌜ (n ≤ length (now old)) × (n ≤ length (now shown)) ⌝ }
+    requires room { ⌜ (n ≤ length (now picks)) × (n ≤ length (now kept)) ⌝ }
+    ensures { λ _. ⌜ Witnessed (now (table .entry)) (now (old .entry)) (now (shown .entry)) (now (picks .exit)) ⌝ }
 {
-    chosen[0] = 0;
+    picks[0] = 0;
+    kept[0] = PlanState::INACTIVE;
     for p in 1..n {
-        chosen[p] = 0;
+        picks[p] = 0;
+        kept[p] = PlanState::INACTIVE;
         if old[p] != PlanState::READY {
             continue;
         }
         let q = parent_at(table, p);
-        // A child shown Activated stays; any other gives way to a higher one.
-        let kept = chosen[q] as usize;
-        if (kept != 0) & (shown[kept] == PlanState::ACTIVATED) {
+        let any_order = entry_at(table, q).body_kind().is_any_order();
+        if (kept[q] == PlanState::ACTIVATED) | !any_order {
             continue;
         }
-        chosen[q] = p as u8;
+        picks[q] = ranks[p];
+        kept[q] = shown[p];
     }
-}
-
-// The new state of plan p in a step, where the plans before it have the states shown, and any-order plans activate the child that
-// these let them have activated.
-fn next_shown(
-    table: &[u8],
-    ranks: &[u8],
-    names: &[u64],
-    sets: &[u64],
-    chosen: &[u8],
-    old: &[u8],
-    words: &[u8],
-    shown: &[u8],
-    p: usize,
-) -> PlanState
-    requires scene { ⌜ Scene (now table) (now old) (now words) (now ranks) (now names) (now sets) ⌝ }
-    requires chosen { ⌜ Chosen (now table) (now old) (now shown) (now chosen) ⌝ }
-    requires room { ⌜ (p < planCount (now table)) × (planCount (now table) ≤ length (now shown)) × (256 ≤ length (now chosen)) ⌝ }
-    ensures { λ r. ⌜ r ≡ newState (now (table .entry)) (now (old .entry)) (now (words .entry)) (activatedChild (now (table .entry)) (now (old .entry)) (now (shown .entry))) (now (shown .entry)) p ⌝ }
-{
-    if p == 0 {
-        return next_root(table, ranks, names, sets, old, words);
-    }
-    let q = parent_at(table, p);
-    let plan = p as u8;
-    let is_chosen = plan == chosen[q];
-    next_child(table, ranks, names, sets, old, words, shown, p, is_chosen)
 }
 
 // The steps of a record of good form, one after the other, and in each its plans: the first step with a wrong word or with a plan that
@@ -170,7 +163,9 @@ fn check_steps(
 {
     let idle = [PlanState::INACTIVE; 256];
     let mut sets = [0u64; 2304];
-    let mut chosen = [0u8; 256];
+    let mut picks = [0u8; 256];
+    let mut kept = [0u8; 256];
+    let mut new = [0u8; 256];
     survey(table, n, ranks, &idle[..n], &mut sets);
     let mut bad_step = 0;
     let mut bad_plan = 0;
@@ -180,12 +175,12 @@ fn check_steps(
         let wrong = lowest_wrong_word(words, n);
         let old = states_before(&idle, record, n, i);
         let shown = states_of(record, n, i);
-        choose(table, n, old, shown, &mut chosen);
+        find_picks(table, n, ranks, old, shown, &mut picks, &mut kept);
+        advance(table, n, ranks, names, &sets, &picks, old, words, &mut new);
         // 12 comes before 15: no plan is compared in a step with a wrong word
         let mut p = 0;
         while (wrong == n) & (p < n) {
-            let next = next_shown(table, ranks, names, &sets, &chosen, old, words, shown, p);
-            if next.to_byte() != shown[p] {
+            if new[p] != shown[p] {
                 bad_step = i + 1;
                 bad_plan = p;
                 break 'search;
@@ -237,17 +232,4 @@ fn check_record(table: &[u8], ranks: &[u8], names: &[u64], record: &[u8]) -> Ver
         return Verdict::Refused(Refusal::RecordLength);
     }
     check_steps(table, n, ranks, names, record, steps)
-}
-
-// Whether a record can come from the rules under a table: accepted with its number of steps, or refused at the first place.
-pub fn check(table: &[u8], record: &[u8]) -> Verdict
-    ensures { λ r. ⌜ Judged (now (table .entry)) (now («record» .entry)) r ⌝ }
-{
-    let mut ranks = [0u8; 256];
-    let mut counts = [0u8; 256];
-    let mut names = [0u64; 256];
-    match read_table(table, &mut ranks, &mut counts, &mut names) {
-        Outcome::Refused(why) => Verdict::Refused(why),
-        Outcome::Done => check_record(table, &ranks, &names, record),
-    }
 }

@@ -1,7 +1,9 @@
 -- Laws of the definitions, for the proofs of this crate and of those above it.
+pub mod Codes
 pub mod Digits
 pub mod Least
 pub mod Outcomes
 pub mod Tree
 pub mod Same
+pub mod Broken
 pub mod Unique

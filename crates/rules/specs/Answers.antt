@@ -125,17 +125,17 @@ unfitEntry p childCount e =
     || eqb p 0 && named e
     || leaf && (not (eqb (e .wait) 0) || retryAborted e || waitForOptional e)
 
--- 12, where only some picks are allowed: an unused bit, a wrong pick, or filter or setup satisfied but not satisfiable
-abbrev pub wrongWordWith : (ℕ → Bool) → ℕ → Bool
-wrongWordWith allowed x = otherBits x || not (allowed (pickOf x)) || contradicts x
+-- 12, of a word whose pick is allowed or not: an unused bit, a wrong pick, or filter or setup satisfied but not satisfiable
+abbrev pub wrongWordIf : Bool → ℕ → Bool
+wrongWordIf allowed x = otherBits x || not allowed || contradicts x
 
 -- 12, of a plan with this entry and so many children
 unfoldable pub wrongWord : PlanEntry → ℕ → ℕ → Bool
-wrongWord e childCount x = wrongWordWith (pickAllowed (bodyOf e) childCount) x
+wrongWord e childCount x = wrongWordIf (pickAllowed (bodyOf e) childCount (pickOf x)) x
 
 -- 12 in a record, of plan p: any pick bit is wrong
 unfoldable pub badRecordWord : List ℕ → ℕ → Bool
-badRecordWord w p = wrongWordWith (λ pick. eqb pick 0) (word w p)
+badRecordWord w p = wrongWordIf (eqb (pickOf (word w p)) 0) (word w p)
 
 module _ (t : List ℕ) where
   -- the parent rule is broken: plan 0's parent is 65535, any other's is the plan before it or an ancestor of that one

@@ -59,18 +59,36 @@ use Rattle.rules.specs.declared.Verdict.the-variants as verdict
 use Rattle.rules.specs.declared.Rest.{Rest}
 use Rattle.rules.specs.declared.Rest.the-variants as rest
 
--- T1, with the root's flags, conditions and m, and plan 1's conditions, as given
-T1With : ℕ → ℕ → ℕ → ℕ → List ℕ
-T1With flags present m present₁ =
+-- T1, with the root's body, flags, conditions and m, and plan 1's conditions, as given
+unfoldable pub T1Of : ℕ → ℕ → ℕ → ℕ → ℕ → List ℕ
+T1Of body flags present m present₁ =
     0x41 ∷ 0x50 ∷ 0x54 ∷ 0x01 ∷ 0x00 ∷ 0x03 ∷ 0x00 ∷ 0x00
-    ∷ 0xFF ∷ 0xFF ∷ 0x03 ∷ flags ∷ present ∷ 0x00 ∷ 0x00 ∷ m
+    ∷ 0xFF ∷ 0xFF ∷ body ∷ flags ∷ present ∷ 0x00 ∷ 0x00 ∷ m
     ∷ 0x00 ∷ 0x00 ∷ 0x00 ∷ 0x04 ∷ present₁ ∷ 0x00 ∷ 0x00 ∷ 0x00
     ∷ 0x00 ∷ 0x00 ∷ 0x00 ∷ 0x04 ∷ 0x20 ∷ 0x00 ∷ 0x00 ∷ 0x00
     ∷ []
 
+-- its root is any-order
+T1With : ℕ → ℕ → ℕ → ℕ → List ℕ
+unfolding T1Of
+T1With flags present m present₁ = T1Of 3 flags present m present₁
+
 T1 : List ℕ
 unfolding T1With
 T1 = T1With 0 0 2 0x20
+
+-- the same tree under other bodies: a sequential root with flags and m as given; a parallel and an unordered one
+sequential : ℕ → ℕ → List ℕ
+unfolding T1Of
+sequential flags m = T1Of 1 flags 0 m 0x20
+
+parallel : List ℕ
+unfolding T1Of
+parallel = T1Of 2 0 0 1 0x20
+
+unordered : List ℕ
+unfolding T1Of
+unordered = T1Of 4 0 0 1 0x20
 
 -- a chain of three: an unordered root with retry-aborted and complete present, a sequential plan, a leaf
 chain : List ℕ
@@ -93,8 +111,18 @@ star k =
     ∷ 0xFF ∷ 0xFF ∷ 0x04 ∷ 0x00 ∷ 0x00 ∷ 0x00 ∷ 0x00 ∷ 0x00
     ∷ leaves k
 
+-- two leaves, and a child of the first behind the second: its parent is no ancestor of the plan before it
+crossed : List ℕ
+crossed =
+    0x41 ∷ 0x50 ∷ 0x54 ∷ 0x01 ∷ 0x00 ∷ 0x04 ∷ 0x00 ∷ 0x00
+    ∷ 0xFF ∷ 0xFF ∷ 0x04 ∷ 0x00 ∷ 0x00 ∷ 0x00 ∷ 0x00 ∷ 0x00
+    ∷ 0x00 ∷ 0x00 ∷ 0x04 ∷ 0x00 ∷ 0x00 ∷ 0x00 ∷ 0x00 ∷ 0x00
+    ∷ 0x00 ∷ 0x00 ∷ 0x00 ∷ 0x00 ∷ 0x00 ∷ 0x00 ∷ 0x00 ∷ 0x00
+    ∷ 0x01 ∷ 0x00 ∷ 0x00 ∷ 0x00 ∷ 0x00 ∷ 0x00 ∷ 0x00 ∷ 0x00
+    ∷ []
+
 -- three states as document 01 writes them (000 is the number 0), and three words
-states : ℕ → List ℕ
+unfoldable pub states : ℕ → List ℕ
 states n = n / 100 ∷ n / 10 % 10 ∷ n % 10 ∷ []
 
 bytes : ℕ → List ℕ
@@ -218,16 +246,75 @@ unmarked =
     ∷ rowPrints 3 (verdict.Refused (Unexplained 8 2)) "refused 15 8 2\n"
     ∷ []
 
--- rows of our own
-ours : List Row
-unfolding T1 T1With chain words idle
-ours =
+-- rows of our own: moves
+ourMoves : List Row
+unfolding T1 T1With sequential parallel unordered chain words idle
+ourMoves =
     -- two of the 'Errors a good programmer makes' that no row above refuses: a Suspended plan that completes, and old endings kept
     -- under a retried plan
     rowStep (T1With 0 4 2 32) 553 (words 0 32 0) 443
     ∷ rowStep chain 476 idle 410
+    -- orders only where the parent was and stays Activated: none where it is suspended in this step, none where it is reactivated
+    ∷ rowStep (T1With 0 4 2 32) 400 (words 4 0 0) 500
+    ∷ rowStep (T1With 0 4 2 32) 500 idle 400
+    -- wait-for-optional: one child is enough for the root, but it waits for the other; without the flag it completes
+    ∷ rowStep (T1With 2 0 1 32) 464 idle 464
+    ∷ rowStep (T1With 0 0 1 32) 464 idle 667
+    -- sequential: the first child not done gets every order, the second none; the first is done when Completed, Rejected, or Aborted
+    -- without retry-aborted
+    ∷ rowStep (sequential 0 1) 400 idle 410
+    ∷ rowStep (sequential 0 1) 430 idle 440
+    ∷ rowStep (sequential 0 2) 460 idle 461
+    ∷ rowStep (sequential 0 1) 480 idle 481
+    ∷ rowStep (sequential 0 1) 470 idle 471
+    ∷ rowStep (sequential 1 1) 470 idle 410
+    -- parallel: the gate is shut beside a child that is Possible, and open beside one in execution or where all are Ready
+    ∷ rowStep parallel 432 idle 433
+    ∷ rowStep parallel 433 idle 444
+    ∷ rowStep parallel 443 idle 444
+    ∷ rowStep parallel 473 idle 474
+    -- unordered: every child at once
+    ∷ rowStep unordered 430 idle 441
+    ∷ []
+
+-- rows of our own: refusals
+ourRefusals : List Row
+unfolding T1 T1With T1Of sequential crossed star words idle
+ourRefusals =
+    -- 1 to 3, 6: too short, another mark, another version, a parent that is no ancestor of the plan before
+    rowRefuses (take 7 T1) 000 idle 1 0
+    ∷ rowRefuses (0 ∷ drop 1 T1) 000 idle 2 0
+    ∷ rowRefuses (take 3 T1 ++ 2 ∷ drop 4 T1) 000 idle 3 0
+    ∷ rowRefuses crossed 000 idle 6 3
+    -- 7: a body, an unused flag, an unused condition. 8: a leaf with children, a root that is named
+    ∷ rowRefuses (T1Of 5 0 0 2 32) 000 idle 7 0
+    ∷ rowRefuses (T1With 8 0 2 32) 000 idle 7 0
+    ∷ rowRefuses (T1With 0 64 2 32) 000 idle 7 0
+    ∷ rowRefuses (T1Of 0 0 0 0 32) 000 idle 8 0
+    ∷ rowRefuses (T1With 4 0 2 32) 000 idle 8 0
+    -- 10: more plans than states
+    ∷ rowRefuses (star 3) 000 idle 10 0
+    -- 11: no code; a child that does not suit a parent that is Inactive, Rejected, Completed or Suspended; a child that a sequential
+    -- plan has not come to
+    ∷ rowRefuses T1 409 idle 11 2
+    ∷ rowRefuses T1 010 idle 11 1
+    ∷ rowRefuses T1 866 idle 11 1
+    ∷ rowRefuses T1 613 idle 11 1
+    ∷ rowRefuses T1 543 idle 11 1
+    ∷ rowRefuses (sequential 0 1) 403 idle 11 2
+    -- 12: unused bits, setup satisfied but not satisfiable, a pick of a leaf
+    ∷ rowRefuses T1 000 (words (2 ^ 20) 0 0) 12 0
+    ∷ rowRefuses T1 000 (words 0 (2 ^ 30) 0) 12 1
+    ∷ rowRefuses T1 000 (words 0 0 2) 12 2
+    ∷ rowRefuses T1 000 (words 0 (2 ^ 24) 0) 12 1
+    ∷ []
+
+-- rows of our own: sub trees and lines
+ourShows : List Row
+unfolding T1 T1With chain
+ourShows =
     -- sub trees: of a root, of the middle of the chain, of a leaf with a sibling after it, of no plan
-    ∷ rowShows chain 476 0 (4 ∷ 7 ∷ 6 ∷ [])
+    rowShows chain 476 0 (4 ∷ 7 ∷ 6 ∷ [])
     ∷ rowShows chain 476 1 (7 ∷ 6 ∷ [])
     ∷ rowShows T1 443 1 (4 ∷ [])
     ∷ rowShows chain 476 3 []
@@ -236,12 +323,12 @@ ours =
     ∷ []
 
 pub table : List Row
-unfolding marked unmarked ours
-table = marked ++ unmarked ++ ours
+unfolding marked unmarked ourMoves ourRefusals ourShows
+table = marked ++ unmarked ++ ourMoves ++ ourRefusals ++ ourShows
 
 pub rowsHold : allHold table ≡ true
 unfolding
-    allHold table leaves leastFrom highest stateAt childrenBefore children rank isOrIsAbove holds satisfiable tooManyLost childrenComplete
+    allHold table T1Of states leaves leastFrom highest stateAt childrenBefore children rank isOrIsAbove holds satisfiable tooManyLost childrenComplete
     firstNotDone gateOpen mayActivate chosen orders stepFirst stepBy stepUnder step badState after leastRest badParent
     undefinedEntry unfitEntry undefinedByte unfit badWait _andThen_ refuseIf refuseAt headerCheck tableCheck badWord callCheck tableVerdict runAnswer runStates lastDescendant subTree decimalTo
 rowsHold = refl

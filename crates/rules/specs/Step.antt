@@ -118,6 +118,10 @@ module _ (t s : List ℕ) where
       ordersOf (bodyOf (entry t q)) (retryAborted (entry t q)) (eqb p (firstNotDone q)) (gateOpen q)
       (mayActivate q && eqb p (choice q))
 
+-- what the root is ordered, as if by a parent that considers it when Inactive and activates it when Ready; nobody retries it
+abbrev pub rootOrders : Orders
+rootOrders = record { considers = true; activates = true; retries = false }
+
 -- One step, from the old states s under the words w.
 module _ (t s w : List ℕ) (choice : ℕ → ℕ) where
   -- plan p, given its parent's new state and orders
@@ -131,7 +135,7 @@ module _ (t s w : List ℕ) (choice : ℕ → ℕ) where
   -- the new state of plan p, where `new` has those of the plans before it: its parent's state is read there, all else in s.
   -- The root moves as if under a parent that stays Activated, that considers it when Inactive and activates it when Ready
   abbrev pub newState : List ℕ → ℕ → PlanState
-  newState new zero = moveOf Activated (record { considers = true; activates = true; retries = false }) 0
+  newState new zero = moveOf Activated rootOrders 0
   newState new (suc k) =
       let q : ℕ = parent t (suc k) in
       moveOf (stateAt new q) (ordersIf (stateAt s q) (stateAt new q) q (suc k)) (suc k)

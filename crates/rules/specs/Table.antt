@@ -44,6 +44,13 @@ isLeaf Parallel = false
 isLeaf AnyOrder = false
 isLeaf Unordered = false
 
+abbrev pub isAnyOrder : Body → Bool
+isAnyOrder Leaf = false
+isAnyOrder Sequential = false
+isAnyOrder Parallel = false
+isAnyOrder AnyOrder = true
+isAnyOrder Unordered = false
+
 -- byte 3: the flags
 abbrev pub retryAborted : PlanEntry → Bool
 retryAborted e = isSet 0 (e .flags)

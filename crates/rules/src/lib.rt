@@ -5,10 +5,10 @@ ghost use Prim.Native.Nat.{_+_, _*_, _<_, _≤_};
 ghost use lib.Count.{ones};
 ghost use lib.ListN.{length};
 ghost use Rattle.rules.specs.Bytes.{isSet, u16At, u32At};
-ghost use Rattle.rules.specs.States.{code, stateOf, ended};
-ghost use Rattle.rules.specs.Table.{bodyOf, isLeaf, retryAborted, waitForOptional, named, bitOf, entry, parent, enough};
+ghost use Rattle.rules.specs.States.{code, stateOf, is, inSelection, inExecution, ended};
+ghost use Rattle.rules.specs.Table.{bodyOf, isLeaf, isAnyOrder, retryAborted, waitForOptional, named, bitOf, entry, parent, enough};
 ghost use Rattle.rules.specs.Answers.{placed, place};
-ghost use Rattle.rules.specs.Words.{word, holds, satisfiable};
+ghost use Rattle.rules.specs.Words.{word, pickOf, holds, satisfiable};
 
 // The state of a plan.
 pub enum PlanState {
@@ -77,6 +77,27 @@ impl PlanState {
         }
     }
 
+    // Whether the state is another.
+    pub fn is(self, other: PlanState) -> bool
+        ensures { λ r. ⌜ r ≡ is other self ⌝ }
+    {
+        self.to_byte() == other.to_byte()
+    }
+
+    // Whether the plan is in selection.
+    pub fn in_selection(self) -> bool
+        ensures { λ r. ⌜ r ≡ inSelection self ⌝ }
+    {
+        self.is(PlanState::Considered) | self.is(PlanState::Possible) | self.is(PlanState::Ready)
+    }
+
+    // Whether the plan is in execution.
+    pub fn in_execution(self) -> bool
+        ensures { λ r. ⌜ r ≡ inExecution self ⌝ }
+    {
+        self.is(PlanState::Activated) | self.is(PlanState::Suspended)
+    }
+
     // Whether the plan has ended.
     pub fn is_ended(self) -> bool
         ensures { λ r. ⌜ r ≡ ended self ⌝ }
@@ -114,6 +135,19 @@ impl Body {
             Body::Sequential => false,
             Body::Parallel => false,
             Body::AnyOrder => false,
+            Body::Unordered => false,
+        }
+    }
+
+    // Whether a plan with this body activates one child after the other, in any order.
+    pub fn is_any_order(self) -> bool
+        ensures { λ r. ⌜ r ≡ isAnyOrder self ⌝ }
+    {
+        match self {
+            Body::Leaf => false,
+            Body::Sequential => false,
+            Body::Parallel => false,
+            Body::AnyOrder => true,
             Body::Unordered => false,
         }
     }
@@ -360,6 +394,14 @@ pub fn word_at(words: &[u8], p: usize) -> u32
     ensures { λ r. ⌜ r ≡ word (now (words .entry)) p ⌝ }
 {
     u32_at(words, 4 * p)
+}
+
+// The pick of an input word.
+pub fn pick_of(x: u32) -> u32
+    ensures is { λ r. ⌜ r ≡ pickOf x ⌝ }
+    ensures small { λ r. ⌜ r < 64 ⌝ }
+{
+    (x >> 24) % 64
 }
 
 // The 16-bit number at a place of a slice.

@@ -18,7 +18,7 @@ use Rattle.rules.proofs.Outcomes.{then-done, pass, pass-at, then-next}
 use Rattle.table.proofs.Lowest.{ends-here, lowest-none}
 use Rattle.demands.specs.PassesStates.{PassesStates}
 use Rattle.step.proofs.Rests.{after-passes}
-use Rattle.step.proofs.Calls.{table-passes, lent-passes, lengths, handed-in}
+use Rattle.lent.proofs.Calls.{table-passes, lent-passes, lengths, handed-in}
 
 module _ (t s w : List ℕ) (done : callCheck t s w ≡ Done) where
   -- with the same words, other states that pass check 11 are as good

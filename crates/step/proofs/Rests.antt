@@ -18,7 +18,7 @@ use Rattle.rules.specs.declared.Rest.the-variants.{Rested, Moving, Refused}
 use Rattle.table.proofs.Lowest.{lowest-at, lowest-none, stops-here, ends-here}
 use Rattle.demands.specs.PassesStates.{PassesStates}
 use Rattle.demands.proofs.Valid.{step-passes}
-use Rattle.step.specs.Calls.{Ready}
+use Rattle.lent.specs.Calls.{MayMove}
 
 -- after k steps, none of which was without change, the states are these
 pub record Running (t s w : List ℕ) (k : ℕ) (states : List ℕ) : Type 0 where
@@ -32,17 +32,17 @@ after-passes t s w done passes zero = passes
 after-passes t s w done passes (suc k) =
     step-passes t (after t s w k) w (λ q. pickOf (word w q)) done (after-passes t s w done passes k)
 
-module _ (t s w ranks names : List ℕ) (ready : Ready t s w ranks names) where
-  ready-after : (k : ℕ) → Ready t (after t s w k) w ranks names
-  ready-after k =
+module _ (t s w ranks names : List ℕ) (moves : MayMove t s w ranks names) where
+  moves-after : (k : ℕ) → MayMove t (after t s w k) w ranks names
+  moves-after k =
       record {
-        prepared = ready .prepared;
-        passes = after-passes t s w (ready .prepared .done) (ready .passes) k;
-        words = ready .words;
+        prepared = moves .prepared;
+        passes = after-passes t s w (moves .prepared .done) (moves .passes) k;
+        words = moves .words;
       }
 
-  pub ready-still : (k : ℕ) (states : List ℕ) → Running t s w k states → Ready t states w ranks names
-  ready-still k states running = rw (running .is) (ready-after k)
+  pub moves-still : (k : ℕ) (states : List ℕ) → Running t s w k states → MayMove t states w ranks names
+  moves-still k states running = rw (running .is) (moves-after k)
 
 module _ (t s w : List ℕ) where
   pub running-none : Running t s w 0 s

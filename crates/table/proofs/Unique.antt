@@ -1,7 +1,7 @@
--- One answer: any two outcomes that the contract of `read_table` permits are equal, and so is what its three buffers then hold of
--- the plans of a table that passes. Past these, and of a refused table, it leaves the buffers open (docs/DECISIONS.md). Each is
--- shown of `Checked`, and then of the contract itself as Rattle reads it: `Post κs a z e`, of the lifetimes, the arguments, the
--- answer and the parameters at exit, arguments and parameters in the order of the declaration. Assumes nothing.
+-- One answer: any two that the contract of a public function permits are equal, function by function, the contract being as Rattle reads
+-- it: `Post κs a z e`, of the lifetimes, the arguments, the answer and the parameters at exit, arguments and parameters in the order of
+-- the declaration. So is what the three buffers of `read_table` hold of the plans of a table that passes; past these, and of a refused
+-- table, it leaves them open (docs/DECISIONS.md). Assumes nothing.
 use Prim.Native.Nat.{ℕ}
 use mathlib.Core.Path.{_≡_, _∙_}
 use mathlib.Core.List.{List}
@@ -11,10 +11,28 @@ use Rattle.rules.specs.Table.{planCount}
 use Rattle.rules.specs.Answers.{tableCheck}
 use Rattle.rules.specs.declared.Outcome.{Outcome}
 use Rattle.rules.specs.declared.Outcome.the-variants.{Done}
-use Rattle.rules.proofs.Unique.{one-answer}
+use Rattle.rules.proofs.Unique.{one-answer, OneAnswer}
 use Rattle.children.proofs.Unique.{Alike}
-use Rattle.table.specs.Facts.{Facts, Checked}
+use Rattle.table.specs.Facts.{Facts}
+use Rattle.table.proofs.has_mark.Reads as has-mark
+use Rattle.table.proofs.header_check.Reads as header-check
 use Rattle.table.proofs.read_table.Reads as read-table
+use Rattle.table.proofs.check_table.Reads as check-table
+use Rattle.table.proofs.sub_tree.Reads as sub-tree
+
+pub has-mark-once : OneAnswer has-mark.Post
+has-mark-once κs a z z′ e e′ h h′ = one-answer h h′
+
+pub header-check-once : OneAnswer header-check.Post
+header-check-once κs a z z′ e e′ h h′ = one-answer h h′
+
+pub check-table-once : OneAnswer check-table.Post
+check-table-once κs a z z′ e e′ h h′ = one-answer h h′
+
+-- of the part that is handed back, its bytes
+pub sub-tree-once :
+    (κs : Lfts 2) (a : _) (z z′ : _) (e e′ : _) → sub-tree.Post κs a z e → sub-tree.Post κs a z′ e′ → now z ≡ now z′
+sub-tree-once κs a z z′ e e′ h h′ = one-answer h h′
 
 -- three buffers, and three others that hold the same of the plans of a table
 pub record SameFacts (t ranks counts names ranks′ counts′ names′ : List ℕ) : Type 0 where
@@ -33,20 +51,8 @@ module _ (t ranks counts names ranks′ counts′ names′ : List ℕ) where
         collected = λ q l. one-answer (h .collected q l) (h′ .collected q l);
       }
 
-  module _ {outcome outcome′ : Outcome} (h : Checked t ranks counts names outcome)
-      (h′ : Checked t ranks′ counts′ names′ outcome′) where
-    -- the outcome of reading a table is one
-    pub checked-once : outcome ≡ outcome′
-    checked-once = one-answer (h .is) (h′ .is)
-
-    -- of a table that passes, the buffers hold the same
-    pub checked-facts-once : tableCheck t ≡ Done → SameFacts t ranks counts names ranks′ counts′ names′
-    checked-facts-once d = facts-once (h .facts (h .is ∙ d)) (h′ .facts (h′ .is ∙ d))
-
--- `read_table`: its outcome is one
-pub read-table-once :
-    (κs : Lfts 4) (a : _) (z z′ : Outcome) (e e′ : _) → read-table.Post κs a z e → read-table.Post κs a z′ e′ → z ≡ z′
-read-table-once κs a z z′ e e′ h h′ = checked-once _ _ _ _ _ _ _ h h′
+pub read-table-once : OneAnswer read-table.Post
+read-table-once κs a z z′ e e′ h h′ = one-answer (h .is) (h′ .is)
 
 -- `read_table`: of a table that passes, what it leaves in the buffers is one
 pub read-table-facts-once :
@@ -54,4 +60,4 @@ pub read-table-facts-once :
     → let t = now (a .0) in tableCheck t ≡ Done
     → SameFacts t (now (e .1 .0)) (now (e .1 .1 .0)) (now (e .1 .1 .1 .0))
     (now (e′ .1 .0)) (now (e′ .1 .1 .0)) (now (e′ .1 .1 .1 .0))
-read-table-facts-once κs a z z′ e e′ h h′ d = checked-facts-once _ _ _ _ _ _ _ h h′ d
+read-table-facts-once κs a z z′ e e′ h h′ d = facts-once _ _ _ _ _ _ _ (h .facts (h .is ∙ d)) (h′ .facts (h′ .is ∙ d))

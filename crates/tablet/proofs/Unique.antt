@@ -1,9 +1,12 @@
--- One answer: any two that the checker's contract permits are equal. And packing loses nothing: a host finds number, plan and step in
+-- One answer: any two that the contract of `asbru_step`, `asbru_rest` or `asbru_check` permits are equal, and so are the states that
+-- the first two leave, the contract being as Rattle reads it. And packing loses nothing: a host finds number, plan and step in
 -- an answer again, and a refusal's number is never 0. Assumes nothing.
 use Prim.Native.Nat.{ℕ, _/_, _%_, _^_, _<_, _≤_}
 use native.Mathlib.Omega.{arith}
 use mathlib.Core.Path.{_≡_, sym, ap, _∙_}
 use mathlib.Core.List.{List}
+use contract.Lifetimes.{Lfts}
+use denote.Ref.{now}
 use Rattle.rules.specs.Answers.{place}
 use Rattle.rules.specs.declared.Refusal.{Refusal}
 use Rattle.rules.specs.declared.Refusal.the-variants.{
@@ -24,11 +27,28 @@ use Rattle.rules.specs.declared.Refusal.the-variants.{
   Unexplained,
   InputLong,
 }
+use Rattle.rules.proofs.Unique.{one-answer, OneAnswer}
 use Rattle.demands.proofs.Unique.{judged-once}
+use Rattle.tablet.proofs.asbru_step.Reads as asbru-step
+use Rattle.tablet.proofs.asbru_rest.Reads as asbru-rest
+use Rattle.tablet.proofs.asbru_check.Reads as asbru-check
 use Rattle.tablet.specs.Packed.{packed, packedRefusal, packedVerdict, Told}
 
-pub told-once : (t r : List ℕ) {a b : ℕ} → Told t r a → Told t r b → a ≡ b
+told-once : (t r : List ℕ) {a b : ℕ} → Told t r a → Told t r b → a ≡ b
 told-once t r x y = x .told ∙ ap packedVerdict (judged-once t r (x .judged) (y .judged)) ∙ sym (y .told)
+
+pub asbru-check-once : OneAnswer asbru-check.Post
+asbru-check-once κs a z z′ e e′ h h′ = told-once (now (a .0)) (now (a .1 .0)) h h′
+
+pub asbru-step-once :
+    (κs : Lfts 3) (a : _) (z z′ : _) (e e′ : _) → asbru-step.Post κs a z e → asbru-step.Post κs a z′ e′
+    → (z ≡ z′) × (now (e .1 .0) ≡ now (e′ .1 .0))
+asbru-step-once κs a z z′ e e′ h h′ = (one-answer (h .0) (h′ .0), one-answer (h .1) (h′ .1))
+
+pub asbru-rest-once :
+    (κs : Lfts 3) (a : _) (z z′ : _) (e e′ : _) → asbru-rest.Post κs a z e → asbru-rest.Post κs a z′ e′
+    → (z ≡ z′) × (now (e .1 .0) ≡ now (e′ .1 .0))
+asbru-rest-once κs a z z′ e e′ h h′ = (one-answer (h .0) (h′ .0), one-answer (h .1) (h′ .1))
 
 -- how a host takes an answer apart
 module _ (number step plan : ℕ) (numberFits : number < 2 ^ 16) (planFits : plan < 2 ^ 16) where

@@ -7,13 +7,12 @@ use Rattle.record.proofs.wrong_word.Tie as tie
 returns : tie.Need-returns
 unfolding badRecordWord
 returns c =
-    simp (c .before .before .other-bits .ensures, c .before .pick-of .ensures .0, c .word-contradicts .ensures, c .before .before .before .word-at .ensures)
+    simp (c .wrong-word-if .ensures, c .before .pick-of .ensures .0, c .before .before .word-at .ensures)
 
 pub wrong-word-spec : {M : Type 1} → statement M
 wrong-word-spec =
     tie.close
     (tie.spec
-    (λ c κs. search needs)
     (λ c κs. search needs)
     (λ c κs. search needs)
     (λ c κs. search needs)

@@ -2,7 +2,7 @@
 use mathlib.Core.Path.{sym, _∙_}
 use native.Mathlib.Omega.{arith}
 use borrow.Author.Needs.{needs}
-use Rattle.step.proofs.Calls.{ready}
+use Rattle.lent.proofs.Calls.{may-move}
 use Rattle.step.proofs.Rests.{run-refused, run-done}
 use Rattle.step.proofs.rest.Statement.{statement}
 use Rattle.step.proofs.rest.Tie as tie
@@ -11,15 +11,20 @@ settle-requires : tie.Need-settle-requires
 settle-requires c κs =
     let called = c .before .before .before .before .before .before .before .before .check-call .ensures in
     let told = c .before .before .before .enum-told .given .1 in
-    ready _ _ _ _ _ _ (sym (called .is) ∙ told) (called .facts told) (omega (arith, called .facts told .small)) (omega (arith, called .facts told .small))
+    let facts = called .facts told in
+    may-move _ _ _ _ _ _ (sym (called .is) ∙ told) facts (omega (arith, facts .small)) (omega (arith, facts .small))
 
 returns : tie.Need-returns
-returns c = run-refused _ _ _ _ _ (sym (c .before .before .before .before .before .before .check-call .ensures .is) ∙ c .before .why .given .1)
+returns c =
+    let called = c .before .before .before .before .before .before .check-call .ensures in
+    run-refused _ _ _ _ _ (sym (called .is) ∙ c .before .why .given .1)
 
 returns-2 : tie.Need-returns-2
 returns-2 c =
     let settled = c .before .before .settle .ensures in
-    run-done _ _ _ _ _ _ (sym (c .before .before .before .before .before .before .before .before .before .before .before .check-call .ensures .is) ∙ c .before .before .before .before .before .before .enum-told .given .1) (settled .0) (settled .1)
+    let told = c .before .before .before .before .before .before in
+    let called = told .before .before .before .before .before .check-call .ensures in
+    run-done _ _ _ _ _ _ (sym (called .is) ∙ told .enum-told .given .1) (settled .0) (settled .1)
 
 pub rest-spec : {M : Type 1} → statement M
 rest-spec =

@@ -1,100 +1,197 @@
 -- `settle` meets its contract: no step so far was without change, until one is or the budget is used. Assumes nothing.
-use mathlib.Core.Path.{_≡_, refl, sym, _∙_}
+use mathlib.Core.Path.{_≡_, refl, sym, ap, _∙_}
+use mathlib.Core.Bool.{Bool}
 use mathlib.Core.List.{List}
-use Prim.Native.Nat.{ℕ, _-_, _≤_, _*_}
+use Prim.Native.Nat.{ℕ, _-_, _≤_}
 use native.Mathlib.Omega.{arith}
 use borrow.Author.Needs.{needs}
 use denote.Ref.{now}
-use lib.ListN.{length, replicate, getD-replicate}
+use lib.ListN.{length, take, replicate, getD-replicate}
 use lib.Seq.{length-take-le}
+use Rattle.rules.specs.Lists.{same}
+use Rattle.rules.specs.Step.{stepUnder, step}
 use Rattle.rules.proofs.Tree.{passes, tree}
-use Rattle.children.specs.Sets.{Surveyed}
-use Rattle.step.specs.Calls.{Ready}
-use Rattle.step.proofs.Scenes.{may-survey, may-resurvey, part-of-all, surveyed-part}
-use Rattle.step.proofs.Rests.{Running, running-none, running-next, ready-still, rests, moves}
+use Rattle.children.specs.Sets.{Beyond, Surveyed}
+use Rattle.moves.specs.StepFacts.{picksOf}
+use Rattle.lent.specs.Calls.{MayMove}
+use Rattle.step.specs.WorkSpace.{Taken}
+use Rattle.step.proofs.Facts.{known-names, may-survey, step-facts, taken-small, taken-step, may-resurvey, surveyed-part}
+use Rattle.step.proofs.Rests.{Running, running-none, running-next, moves-still, rests, moves}
 use Rattle.step.proofs.settle.Statement.{statement}
 use Rattle.step.proofs.settle.Tie as tie
 
+-- the turns so far
+record Turned (t s w : List ℕ) (budget n k : ℕ) (states sets new : List ℕ) : Type 0 where
+  sets-long : length sets ≡ 2304
+  new-long : length new ≡ 256
+  within : k ≤ budget
+  long : length states ≡ n
+  running : Running t s w k states
+  surveyed : Surveyed t states n sets
+
 abbrev Inv-loop : tie.InvT-loop
-Inv-loop table ranks names states₀ words budget n sets₀ new₀ k₀ states sets new k =
-    (length sets ≡ 2304)
-    × (length new ≡ 256)
-    × (k ≤ budget)
-    × (length states ≡ length states₀)
-    × Running table states₀ words k states
-    × Surveyed table states n sets
+Inv-loop table ranks names states₀ words budget n sets₀ picks new₀ k₀ states sets new k =
+    Turned table states₀ words budget n k states sets new
 
 abbrev μ-loop : tie.MeasureT-loop
-μ-loop table ranks names states₀ words budget n sets₀ new₀ k₀ states sets new k = budget - k
+μ-loop table ranks names states₀ words budget n sets₀ picks new₀ k₀ states sets new k = budget - k
 
 -- the plans are few
-few : {t s w ranks names : List ℕ} → Ready t s w ranks names → length s ≤ 256
-few ready = omega (arith, ready .passes .long, tree _ (passes _ (ready .prepared .done)) .small)
+few : {t s w ranks names : List ℕ} → MayMove t s w ranks names → length s ≤ 256
+few moves = omega (arith, moves .passes .long, tree _ (passes _ (moves .prepared .done)) .small)
 
 survey-requires : tie.Need-survey-requires Inv-loop μ-loop
 survey-requires c κs =
-    let ready = c .before .before .before .before .before .before .before .pre in
-    let room : length (now (c .before .before .before .before .before .before .before .args .states)) * 9 ≤ 2304 = omega (arith, few ready) in
-    may-survey _ _ _ _ _ ready _ (ready .passes .long) (replicate 2304 0) room (λ i l. getD-replicate {A = ℕ} 2304 i 0 0 (omega (arith, few ready)))
+    let moves = c .before .before .before .before .before .before .before .pre in
+    let most = few moves in
+    may-survey _ _ _ _ _ moves _ (moves .passes .long) (replicate 2304 0) (omega arith)
+    (λ i l. getD-replicate {A = ℕ} 2304 i 0 0 (omega arith))
+
+take-picks-requires : tie.Need-take-picks-requires Inv-loop μ-loop
+take-picks-requires c κs =
+    let moves = c .before .before .before .before .before .before .before .before .before .before .pre in
+    (omega (arith, moves .words, moves .passes .long), omega (arith, few moves))
 
 loop-holds : tie.Need-loop-holds Inv-loop μ-loop
 loop-holds c =
-    let survey = c .before .survey .ensures in
-    (survey .1 .long, search needs, omega arith, refl, running-none _ _ _, survey .0)
+    let survey = c .before .before .before .before .survey .ensures in
+    record {
+      sets-long = survey .1 .long;
+      new-long = search needs;
+      within = omega arith;
+      long = refl;
+      running = running-none _ _ _;
+      surveyed = survey .0;
+    }
 
-is-settled-requires : tie.Need-is-settled-requires Inv-loop μ-loop
-is-settled-requires c κs =
-    let inv = c .before .before .before .before .loop .inv in
-    let ready = c .before .before .before .before .before .before .before .before .before .before .before .before .before .before .pre in
-    (ready-still _ _ _ _ _ ready _ _ (inv .4), ((omega (arith, few ready, inv .0, inv .3), omega (arith, few ready, inv .1, inv .3)), rw (inv .3) (inv .5)))
+-- at the head of a turn: the start, the picks, and that the plans may move
+abbrev taken-of : tie.At-loop Inv-loop μ-loop → tie.After-take-picks Inv-loop μ-loop
+taken-of c = c .before .before
+
+abbrev start-of : tie.At-loop Inv-loop μ-loop → tie.Start Inv-loop μ-loop
+start-of c = taken-of c .before .before .before .before .before .before .before .before .before .before .before
+
+moves-at :
+    (c : tie.At-loop Inv-loop μ-loop)
+    → MayMove (now (start-of c .args .table)) (c .loop .states) (now (start-of c .args .words)) (now (start-of c .args .ranks))
+    (now (start-of c .args .names))
+moves-at c = moves-still _ _ _ _ _ (start-of c .pre) _ _ (c .loop .inv .running)
+
+advance-requires : tie.Need-advance-requires Inv-loop μ-loop
+advance-requires c κs =
+    let at = c .before .before .before .before in
+    let inv = at .loop .inv in
+    let first = start-of at .pre in
+    let most = few first in
+    let whole = first .passes .long in
+    let moves = moves-at at in (
+      step-facts _ _ _ _ _ moves _ whole _ (inv .surveyed) (omega (arith, inv .sets-long)) _ (omega (arith, most))
+          (taken-small _ _ _ _ _ moves _ whole _ (taken-of at .take-picks .ensures)),
+      (known-names _ _ _ _ _ moves _ whole, (whole, omega (arith, inv .new-long), omega (arith, first .words, whole))),
+    )
+
+-- what the pass under these picks gives is the step
+is-step :
+    (c : tie.At-loop Inv-loop μ-loop) {picks x : List ℕ}
+    → Taken (now (start-of c .args .words)) (length (now (start-of c .args .states))) picks
+    → x ≡ stepUnder (now (start-of c .args .table)) (c .loop .states) (now (start-of c .args .words)) (picksOf picks)
+    → x ≡ step (now (start-of c .args .table)) (c .loop .states) (now (start-of c .args .words))
+is-step c taken e = e ∙ taken-step _ _ _ _ _ (moves-at c) _ (start-of c .pre .passes .long) _ taken
+
+-- the test for a change, as the code has it
+tested :
+    (n : ℕ) (states new next : List ℕ) (r : Bool) → length states ≡ n → take n new ≡ next
+    → r ≡ same (take (length states) new) states → same next states ≡ r
+tested n states new next r long e told = sym (told ∙ rw (long, e) refl)
 
 returns : tie.Need-returns Inv-loop μ-loop
 returns c =
-    let inv = c .before .before .before .before .before .before .before .loop .inv in
-    rests _ _ _ _ _ (inv .4) _ (inv .2) (sym (c .before .before .is-settled .ensures .1) ∙ c .if1 .taken)
-
-resurvey-requires : tie.Need-resurvey-requires Inv-loop μ-loop
-resurvey-requires c κs =
-    let inv = c .before .before .before .before .before .before .before .before .before .before .loop .inv in
-    let ready = c .before .before .before .before .before .before .before .before .before .before .before .before .before .before .before .before .before .before .before .before .pre in
-    let settled = c .before .before .before .before .before .is-settled .ensures in
-    let next = running-next _ _ _ _ _ (inv .4) _ (sym (settled .1) ∙ c .before .before .before .if1 .left) (part-of-all _ _ _ _ (inv .3) (settled .0)) in
-    may-resurvey _ _ _ _ _ (ready-still _ _ _ _ _ ready _ _ (inv .4)) _ (ready-still _ _ _ _ _ ready _ _ next) _ (ready .passes .long) _ (inv .5) (omega (arith, few ready, inv .0))
-
-take-over-requires : tie.Need-take-over-requires Inv-loop μ-loop
-take-over-requires c κs =
-    let inv = c .before .before .before .before .before .before .before .before .before .before .before .before .before .before .loop .inv in
-    omega (arith, few (c .before .before .before .before .before .before .before .before .before .before .before .before .before .before .before .before .before .before .before .before .before .before .before .before .pre), inv .1, inv .3)
-
-loop-again : tie.Need-loop-again Inv-loop μ-loop
-loop-again c =
-    let inv = c .before .before .before .before .before .before .before .before .before .before .before .before .before .before .before .before .before .loop .inv in
-    let settled = c .before .before .before .before .before .before .before .before .before .before .before .before .is-settled .ensures in
-    let taken = c .before .before .take-over .ensures in
-    let resurvey = c .before .before .before .before .before .before .resurvey .ensures in (
-      resurvey .1 .long ∙ inv .0,
-      omega (arith, inv .1),
-      omega arith,
-      omega (arith, inv .3),
-      running-next _ _ _ _ _ (inv .4) _ (sym (settled .1) ∙ c .before .before .before .before .before .before .before .before .before .before .if1 .left) (taken ∙ settled .0),
-      surveyed-part _ _ _ _ _ _ (inv .3) taken (resurvey .0),
-    )
-
-is-settled-requires-2 : tie.Need-is-settled-requires-2 Inv-loop μ-loop
-is-settled-requires-2 c κs =
-    let inv = c .before .before .before .before .loop .inv in
-    let ready = c .before .before .before .before .before .before .before .before .before .before .before .before .before .before .pre in
-    (ready-still _ _ _ _ _ ready _ _ (inv .4), ((omega (arith, few ready, inv .0, inv .3), omega (arith, few ready, inv .1, inv .3)), rw (inv .3) (inv .5)))
+    let advanced = c .before .before .before .before .before in
+    let at = advanced .before .before .before .before .before in
+    let inv = at .loop .inv in
+    let next = is-step at (taken-of at .take-picks .ensures) (advanced .advance .ensures .0) in
+    rests _ _ _ _ _ (inv .running) _ (inv .within)
+    (tested _ _ _ _ _ (inv .long) next (c .before .unchanged .ensures) ∙ c .if1 .taken)
 
 returns-2 : tie.Need-returns-2 Inv-loop μ-loop
 returns-2 c =
-    let inv = c .before .before .before .before .before .before .before .loop .inv in
-    rests _ _ _ _ _ (inv .4) _ (inv .2) (sym (c .before .before .is-settled2 .ensures .1) ∙ c .if2 .taken)
+    let changed = c .before in
+    let advanced = changed .before .before .before .before .before in
+    let at = advanced .before .before .before .before .before in
+    let inv = at .loop .inv in
+    let next = is-step at (taken-of at .take-picks .ensures) (advanced .advance .ensures .0) in
+    moves _ _ _ _ _ (inv .running) _ (c .if2 .taken)
+    (tested _ _ _ _ _ (inv .long) next (changed .before .unchanged .ensures) ∙ changed .if1 .left)
 
-returns-3 : tie.Need-returns-3 Inv-loop μ-loop
-returns-3 c =
-    let inv = c .before .before .before .before .before .before .before .loop .inv in
-    moves _ _ _ _ _ (inv .4) _ (omega (arith, inv .2, c .before .before .before .before .before .before .loop-test .left)) (sym (c .before .before .is-settled2 .ensures .1) ∙ c .if2 .left)
+resurvey-requires : tie.Need-resurvey-requires Inv-loop μ-loop
+resurvey-requires c κs =
+    let changed = c .before .before .before .before in
+    let advanced = changed .before .before .before .before .before in
+    let at = advanced .before .before .before .before .before in
+    let inv = at .loop .inv in
+    let first = start-of at .pre in
+    let next = is-step at (taken-of at .take-picks .ensures) (advanced .advance .ensures .0) in
+    let moved =
+    running-next _ _ _ _ _ (inv .running) _
+    (tested _ _ _ _ _ (inv .long) next (changed .before .unchanged .ensures) ∙ changed .if1 .left)
+    next
+    in
+    may-resurvey _ _ _ _ _ (moves-at at) _ (moves-still _ _ _ _ _ first _ _ moved) _ (first .passes .long) _ (inv .surveyed)
+    (omega (arith, few first, inv .sets-long))
+
+loop-again : tie.Need-loop-again Inv-loop μ-loop
+loop-again c =
+    let taken-over = c .before .before .take-over .ensures in
+    let resurvey = c .before .before .before .before .before .before .resurvey .ensures in
+    let going = c .before .before .before .before .before .before .before .before .before .before in
+    let changed = going .before in
+    let advanced = changed .before .before .before .before .before in
+    let at = advanced .before .before .before .before .before in
+    let inv = at .loop .inv in
+    let next = is-step at (taken-of at .take-picks .ensures) (advanced .advance .ensures .0) in
+    record {
+      sets-long = resurvey .1 .long ∙ inv .sets-long;
+      new-long = advanced .advance .ensures .1 .long ∙ inv .new-long;
+      within = omega (arith, inv .within, going .if2 .left);
+      long = ap length taken-over ∙ length-take-le _ _ (omega (arith, inv .long, inv .new-long, few (start-of at .pre))) ∙ inv .long;
+      running =
+          running-next _ _ _ _ _ (inv .running) _
+          (tested _ _ _ _ _ (inv .long) next (changed .before .unchanged .ensures) ∙ changed .if1 .left)
+          (taken-over ∙ rw (inv .long) next);
+      surveyed = surveyed-part _ _ _ _ _ _ (inv .long) taken-over (resurvey .0);
+    }
+
+-- after the pass the states have room among the new ones
+abbrev loop-of : tie.After-advance Inv-loop μ-loop → tie.At-loop Inv-loop μ-loop
+loop-of c = c .before .before .before .before .before
+
+new-room :
+    (c : tie.After-advance Inv-loop μ-loop) {n : ℕ} {new : List ℕ} → Beyond n (loop-of c .loop .new) new
+    → (length (loop-of c .loop .states) ≤ length new)
+    × (length (now (start-of (loop-of c) .args .states)) ≤ length new)
+new-room c moved =
+    let inv = loop-of c .loop .inv in
+    let most = few (start-of (loop-of c) .pre) in
+    (omega (arith, moved .long, inv .new-long, inv .long, most), omega (arith, moved .long, inv .new-long, most))
+
+add-k : tie.Need-add-k Inv-loop μ-loop
+add-k c =
+    let going = c .before .before .before .before .before .before .before .before .before .before in
+    let at = loop-of (going .before .before .before .before .before .before) in
+    omega (arith, going .if2 .left, at .loop .inv .within, start-of at .fits .budget)
+
+array-share-prefix-new : tie.Need-array-share-prefix-new Inv-loop μ-loop
+array-share-prefix-new c =
+    let advanced = c .before .before .before .before .before .before .before in
+    new-room advanced (advanced .advance .ensures .1) .1
+
+slice-aggregate-resurvey : tie.Need-slice-aggregate-resurvey Inv-loop μ-loop
+slice-aggregate-resurvey c = sym (length-take-le _ _ (array-share-prefix-new (c .before)))
+
+take-over-requires : tie.Need-take-over-requires Inv-loop μ-loop
+take-over-requires c κs =
+    let advanced = c .before .before .before .before .before .before .before .before .before .before .before .before .before in
+    new-room advanced (advanced .advance .ensures .1) .0
 
 pub settle-spec : {M : Type 1} → statement M
 settle-spec =
@@ -104,25 +201,25 @@ settle-spec =
     μ-loop
     (λ c. search needs)
     survey-requires
+    (λ c. search needs)
+    take-picks-requires
     loop-holds
     (λ c. search needs)
     (λ c. search needs)
-    is-settled-requires
+    (λ c. search needs)
+    advance-requires
+    (λ c. search needs)
+    (λ c κs. new-room (c .before .before .before) (c .before .before .before .advance .ensures .1) .0)
     (λ c. search needs)
     returns
-    (λ c. omega (arith, few (c .before .before .before .before .before .before .before .before .before .before .before .before .before .before .before .before .before .before .pre), c .before .before .before .before .before .before .before .before .loop .inv .1))
-    (λ c. sym (length-take-le _ _ (omega (arith, few (c .before .before .before .before .before .before .before .before .before .before .before .before .before .before .before .before .before .before .before .pre), c .before .before .before .before .before .before .before .before .before .loop .inv .1))))
+    (λ c. search needs)
+    returns-2
+    array-share-prefix-new
+    slice-aggregate-resurvey
     (λ c. search needs)
     resurvey-requires
     (λ c. search needs)
     take-over-requires
-    (λ c. omega (arith, c .before .before .before .before .before .before .before .before .before .before .before .before .before .before .before .before .loop-test .taken, c .before .before .before .before .before .before .before .before .before .before .before .before .before .before .before .before .before .before .before .before .before .before .before .before .before .before .before .fits .budget))
+    add-k
     (λ c. omega arith)
-    loop-again
-    (λ c. search needs)
-    (λ c. search needs)
-    is-settled-requires-2
-    (λ c. search needs)
-    returns-2
-    (λ c. search needs)
-    returns-3)
+    loop-again)

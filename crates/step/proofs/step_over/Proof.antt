@@ -1,33 +1,64 @@
--- `step_over` meets its contract: the survey of the states, the step from it, and the new states taken over. Assumes nothing.
+-- `step_over` meets its contract: the survey of the states, the picks of the words, the step from them, and the new states taken over.
+-- Assumes nothing.
 use mathlib.Core.Path.{_∙_}
 use native.Mathlib.Omega.{arith}
 use borrow.Author.Needs.{needs}
 use denote.Ref.{now}
-use Rattle.step.proofs.Scenes.{may-survey, scene}
+use Rattle.step.proofs.Facts.{known-names, may-survey, step-facts, taken-small, taken-step}
 use Rattle.step.proofs.step_over.Statement.{statement}
 use Rattle.step.proofs.step_over.Tie as tie
 
+-- where the states are surveyed: the start
+abbrev start-of : tie.After-survey → tie.Start
+start-of c = c .before .before .before .before .before .before .before .before .before .before .before
+
 survey-requires : tie.Need-survey-requires
 survey-requires c κs =
-    let pre = c .before .before .before .before .before .before .before .before .before .pre in
-    may-survey _ _ _ _ _ (pre .0) _ (pre .0 .passes .long) (now (c .before .before .before .before .before .before .before .before .before .args .sets)) (pre .1 .0 .0) (pre .1 .1)
+    let start = c .before .before .before .before .before .before .before .before .before .before in
+    let moves = start .pre .0 in
+    let room = start .pre .1 in
+    may-survey _ _ _ _ _ moves _ (moves .passes .long) (now (start .args .sets)) (room .sets-room) (room .empty)
+
+take-picks-requires : tie.Need-take-picks-requires
+take-picks-requires c κs =
+    let start = start-of (c .before .before .before) in
+    let moves = start .pre .0 in
+    (omega (arith, moves .words, moves .passes .long), start .pre .1 .picks-room)
 
 advance-requires : tie.Need-advance-requires
 advance-requires c κs =
-    let pre = c .before .before .before .before .before .before .before .before .before .before .before .before .before .before .before .pre in
-    let survey = c .before .before .before .before .before .survey .ensures in (
-      scene _ _ _ _ _ (pre .0) _ (pre .0 .passes .long) _ (survey .0) (omega (arith, pre .1 .0 .0, survey .1 .long)),
-      (pre .0 .passes .long, pre .1 .0 .1),
+    let taken = c .before .before .before .before .before .before in
+    let surveyed = taken .before .before .before .before in
+    let start = start-of surveyed in
+    let moves = start .pre .0 in
+    let room = start .pre .1 in
+    let whole = moves .passes .long in
+    let survey = surveyed .survey .ensures in (
+      step-facts _ _ _ _ _ moves _ whole _ (survey .0) (omega (arith, room .sets-room, survey .1 .long)) _
+          (omega (arith, room .picks-room))
+          (taken-small _ _ _ _ _ moves _ whole _ (taken .take-picks .ensures)),
+      (known-names _ _ _ _ _ moves _ whole, (whole, room .new-room, omega (arith, moves .words, whole))),
     )
+
+returns : tie.Need-returns
+returns c =
+    let advanced = c .before .before .before .before .before .before .before in
+    let taken = advanced .before .before .before .before .before .before .before in
+    let moves = start-of (taken .before .before .before .before) .pre .0 in
+    c .before .before .take-over .ensures
+    ∙ advanced .advance .ensures .0
+    ∙ taken-step _ _ _ _ _ moves _ (moves .passes .long) _ (taken .take-picks .ensures)
 
 pub step-over-spec : {M : Type 1} → statement M
 step-over-spec =
     tie.close
     (tie.spec
     survey-requires
+    take-picks-requires
     advance-requires
     (λ c κs. search needs)
     (λ c. search needs)
     (λ c. search needs)
     (λ c. search needs)
-    (λ c. c .before .before .take-over .ensures ∙ c .before .before .before .before .before .before .before .advance .ensures))
+    (λ c. search needs)
+    returns)

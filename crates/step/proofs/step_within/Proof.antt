@@ -2,33 +2,53 @@
 use mathlib.Core.Path.{sym, _∙_}
 use native.Mathlib.Omega.{arith}
 use borrow.Author.Needs.{needs}
-use Rattle.step.proofs.Calls.{ready, step-leaves, step-steps}
+use Rattle.lent.proofs.Calls.{may-move}
+use Rattle.step.proofs.Facts.{step-leaves, step-steps}
 use Rattle.step.proofs.step_within.Statement.{statement}
 use Rattle.step.proofs.step_within.Tie as tie
 
+-- where the call has been checked: the start
+abbrev start-of : tie.After-check-call → tie.Start
+start-of c = c .before .before .before .before .before .before .before .before .before .before .before .before .before .before
+
 step-over-requires : tie.Need-step-over-requires
 step-over-requires c κs =
-    let pre = c .before .before .before .before .before .before .before .before .before .before .before .before .before .before .before .before .before .before .before .before .before .before .before .before .before .before .pre in
-    let called = c .before .before .before .before .before .before .before .before .before .before .before .before .before .check-call .ensures in
-    let told = c .before .before .before .before .before .enum-told .given .1 in
-    let facts = called .facts told in
+    let told = c .before .before .before .before .before .before in
+    let checked = told .before .before .before .before .before .before .before .before in
+    let facts-room = start-of checked .pre .0 in
+    let step-room = start-of checked .pre .1 in
+    let called = checked .check-call .ensures in
+    let done = told .enum-told .given .1 in
+    let facts = called .facts done in
     let long = facts .long in
     let small = facts .small in
     let moves =
-    ready _ _ _ _ _ _ (sym (called .is) ∙ told) facts (omega (arith, pre .0 .0 _ long small)) (omega (arith, pre .0 .2 _ long small)) in
+    may-move _ _ _ _ _ _ (sym (called .is) ∙ done) facts (omega (arith, facts-room .ranks-room _ long small))
+    (omega (arith, facts-room .names-room _ long small)) in
     let whole = moves .passes .long in
-    let room = pre .1 .0 .0 _ long small in
-    (moves, ((omega (arith, whole, room), omega (arith, whole, pre .1 .0 .1 _ long small)), λ i l. pre .1 .1 i (omega (arith, l, whole, room))))
+    let sets-room = step-room .sets-room _ long small in (
+      moves,
+      record {
+        sets-room = omega (arith, whole, sets-room);
+        picks-room = omega (arith, whole, step-room .picks-room _ long small);
+        new-room = omega (arith, whole, step-room .new-room _ long small);
+        empty = λ i l. step-room .empty i (omega (arith, l, whole, sets-room));
+      },
+    )
 
 returns : tie.Need-returns
 returns c =
-    let refused = sym (c .before .before .before .before .before .before .before .before .before .check-call .ensures .is) ∙ c .before .why .given .1 in
+    let checked = c .before .before .before .before .before .before .before .before .before in
+    let refused = sym (checked .check-call .ensures .is) ∙ c .before .why .given .1 in
     (sym refused, step-leaves _ _ _ _ refused)
 
 returns-2 : tie.Need-returns-2
 returns-2 c =
-    let done = sym (c .before .before .before .before .before .before .before .before .before .before .before .before .before .before .before .before .before .before .before .before .check-call .ensures .is) ∙ c .before .before .before .before .before .before .before .before .before .before .before .before .enum-told .given .1 in
-    (sym done, step-steps _ _ _ _ done (c .before .before .before .before .before .before .step-over .ensures))
+    let stepped = c .before .before .before .before .before .before .before .before in
+    let told = stepped .before .before .before .before .before .before .before in
+    let checked = told .before .before .before .before .before .before .before .before in
+    let done = sym (checked .check-call .ensures .is) ∙ told .enum-told .given .1 in
+    (sym done, step-steps _ _ _ _ done (stepped .step-over .ensures))
 
 pub step-within-spec : {M : Type 1} → statement M
 step-within-spec =
@@ -43,6 +63,7 @@ step-within-spec =
     (λ c. search needs)
     (λ c. search needs)
     returns
+    (λ c. search needs)
     (λ c. search needs)
     (λ c. search needs)
     (λ c. search needs)

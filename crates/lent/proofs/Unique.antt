@@ -1,0 +1,25 @@
+-- One answer: any two that the contract of `check_call` or of `wrong_word_if` permits are equal, and so is what the buffers of a call
+-- that passes then hold of the table's plans. The contract is taken as Rattle reads it. Assumes nothing.
+use mathlib.Core.Path.{_≡_, _∙_}
+use contract.Lifetimes.{Lfts}
+use denote.Ref.{now}
+use Rattle.rules.specs.Answers.{callCheck}
+use Rattle.rules.specs.declared.Outcome.{Outcome}
+use Rattle.rules.specs.declared.Outcome.the-variants.{Done}
+use Rattle.rules.proofs.Unique.{one-answer, OneAnswer}
+use Rattle.table.proofs.Unique.{SameFacts, facts-once}
+use Rattle.lent.proofs.check_call.Reads as check-call
+use Rattle.lent.proofs.wrong_word_if.Reads as wrong-word-if
+
+pub wrong-word-if-once : OneAnswer wrong-word-if.Post
+wrong-word-if-once κs a z z′ e e′ h h′ = one-answer h h′
+
+pub check-call-once : OneAnswer check-call.Post
+check-call-once κs a z z′ e e′ h h′ = one-answer (h .is) (h′ .is)
+
+pub check-call-facts-once :
+    (κs : Lfts 6) (a : _) (z z′ : Outcome) (e e′ : _) → check-call.Post κs a z e → check-call.Post κs a z′ e′
+    → callCheck (now (a .0)) (now (a .1 .0)) (now (a .1 .1 .0)) ≡ Done
+    → SameFacts (now (a .0)) (now (e .1 .1 .1 .0)) (now (e .1 .1 .1 .1 .0)) (now (e .1 .1 .1 .1 .1 .0))
+    (now (e′ .1 .1 .1 .0)) (now (e′ .1 .1 .1 .1 .0)) (now (e′ .1 .1 .1 .1 .1 .0))
+check-call-facts-once κs a z z′ e e′ h h′ d = facts-once _ _ _ _ _ _ _ (h .facts (h .is ∙ d)) (h′ .facts (h′ .is ∙ d))

@@ -1,0 +1,97 @@
+-- `check_lent` meets its contract: where each check stops. Assumes nothing.
+use mathlib.Core.Path.{_≡_, sym}
+use Prim.Native.Nat.{_*_}
+use native.Mathlib.Omega.{arith}
+use denote.Ref.{now}
+use lib.ListN.{length}
+use borrow.Author.Needs.{needs}
+use Rattle.rules.proofs.Tree.{passes, tree}
+use Rattle.lent.proofs.Calls.{lengths-agree, stops-at-lengths, stops-at-state, stops-at-word, lent-done, rooted}
+use Rattle.lent.proofs.check_lent.Statement.{statement}
+use Rattle.lent.proofs.check_lent.Tie as tie
+
+u16-at-requires : tie.Need-u16-at-requires
+u16-at-requires c κs = omega (arith, passes _ (c .before .before .before .before .pre .done) .long)
+
+returns : tie.Need-returns
+returns c = sym (stops-at-lengths _ _ _ _ (c .before .u16-at .ensures) (c .if1 .taken))
+
+-- check 10 has passed
+abbrev start-of : tie.Else1 → tie.Start
+start-of c = c .before .before .before .before .before .before
+
+agreed :
+    (c : tie.Else1)
+    → (length (now (start-of c .args .states)) ≡ c .before .u16-at .result)
+    × (length (now (start-of c .args .words)) ≡ 4 * c .before .u16-at .result)
+agreed c = lengths-agree (now (start-of c .args .states)) (now (start-of c .args .words)) (c .before .u16-at .result) (c .if1 .left)
+
+lowest-bad-state-requires : tie.Need-lowest-bad-state-requires
+lowest-bad-state-requires c κs =
+    let done = start-of c .pre .done in
+    let whole = c .before .u16-at .ensures in
+    record {
+      rooted = rooted _ done _ whole;
+      whole = whole;
+      some = omega (arith, whole, tree _ (passes _ done) .some);
+      states-room = omega (arith, agreed c .0);
+    }
+
+returns-2 : tie.Need-returns-2
+returns-2 c =
+    let lengths = c .before .before in
+    sym
+    (stops-at-state _ _ _ _ (lengths .before .u16-at .ensures) (lengths .if1 .left) _ (c .before .lowest-bad-state .ensures)
+    (c .if2 .taken))
+
+lowest-bad-word-requires : tie.Need-lowest-bad-word-requires
+lowest-bad-word-requires c κs =
+    let lengths = c .before .before in
+    let tabled = start-of lengths .pre in
+    let whole = lengths .before .u16-at .ensures in
+    let tree = rooted _ (tabled .done) _ whole in
+    record {
+      small = tree .small;
+      room = tree .room;
+      counts-room = omega (arith, whole, tabled .room);
+      words-room = omega (arith, agreed lengths .1);
+      counted = λ q l. tabled .counted q (omega (arith, whole));
+    }
+
+returns-3 : tie.Need-returns-3
+returns-3 c =
+    let states = c .before .before in
+    let lengths = states .before .before in
+    sym
+    (stops-at-word _ _ _ _ (lengths .before .u16-at .ensures) (lengths .if1 .left) _ (states .before .lowest-bad-state .ensures)
+    (states .if2 .left)
+    _
+    (c .before .lowest-bad-word .ensures)
+    (c .if3 .taken))
+
+returns-4 : tie.Need-returns-4
+returns-4 c =
+    let states = c .before .before in
+    let lengths = states .before .before in
+    sym
+    (lent-done _ _ _ _ (lengths .before .u16-at .ensures) (lengths .if1 .left) _ (states .before .lowest-bad-state .ensures)
+    (states .if2 .left)
+    _
+    (c .before .lowest-bad-word .ensures)
+    (c .if3 .left))
+
+pub check-lent-spec : {M : Type 1} → statement M
+check-lent-spec =
+    tie.close
+    (tie.spec
+    u16-at-requires
+    (λ c. search needs)
+    (λ c. search needs)
+    returns
+    lowest-bad-state-requires
+    (λ c. search needs)
+    returns-2
+    lowest-bad-word-requires
+    (λ c. search needs)
+    returns-3
+    returns-4)

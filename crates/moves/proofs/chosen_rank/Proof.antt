@@ -1,0 +1,26 @@
+-- `chosen_rank` meets its contract: the digit of the pick, else the lowest digit. Assumes nothing.
+use borrow.Author.Tests.{eq-eqb, ne-eqb}
+use borrow.Author.Needs.{needs}
+use Rattle.rules.specs.declared.PlanState.the-variants.{Ready}
+use Rattle.moves.proofs.ChildWords.{in-one, picked-is, lowest-is}
+use Rattle.moves.proofs.chosen_rank.Statement.{statement}
+use Rattle.moves.proofs.chosen_rank.Tie as tie
+
+returns : tie.Need-returns
+returns c t s picks p known child e =
+    let ready = in-one known Ready (c .before .in-state .ensures) in
+    rw (← e) (picked-is known child picks ready (rw e (eq-eqb _ _ (c .if1 .taken))))
+
+returns-2 : tie.Need-returns-2
+returns-2 c t s picks p known child e =
+    let ready = in-one known Ready (c .before .in-state .ensures) in
+    lowest-is known child picks ready (rw e (ne-eqb _ _ (c .if1 .left)))
+
+pub chosen-rank-spec : {M : Type 1} → statement M
+chosen-rank-spec =
+    tie.close
+    (tie.spec
+    (λ c κs. search needs)
+    (λ c. search needs)
+    returns
+    returns-2)

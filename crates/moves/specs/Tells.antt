@@ -1,0 +1,102 @@
+-- What the words of plan q's children tell: the answer to each question about them, for every table t and states s whose children the
+-- words are of. What other words would mean is nobody's question. Assumes nothing.
+use Prim.Native.Nat.{ℕ}
+use mathlib.Core.Path.{_≡_}
+use mathlib.Core.Bool.{Bool, _&&_}
+use mathlib.Core.List.{List}
+use lib.Dec.{eqb}
+use Rattle.rules.specs.Lists.{all}
+use Rattle.rules.specs.States.{stateAt, is, inExecution, ended}
+use Rattle.rules.specs.Table.{entry, named, retryAborted, children, rank}
+use Rattle.rules.specs.Demands.{SubPlan}
+use Rattle.rules.specs.Step.{
+  moveOn,
+  tooManyLost,
+  childrenComplete,
+  firstNotDone,
+  gateOpen,
+  mayActivate,
+  chosen,
+  orders,
+  ordersIf,
+}
+use Rattle.rules.specs.declared.PlanEntry.{PlanEntry}
+use Rattle.rules.specs.declared.Orders.{Orders}
+use Rattle.rules.specs.declared.PlanState.{PlanState}
+use Rattle.rules.specs.declared.PlanState.the-variants.{Suspended}
+use Rattle.children.specs.Sets.{setOf}
+use Rattle.moves.specs.ChildWords.{ChildWords}
+
+-- e is the entry of plan q, and names the word of its named children
+pub record OwnEntry (t : List ℕ) (q : ℕ) (e : PlanEntry) (names : ℕ) : Type 0 where
+  pub is : e ≡ entry t q
+  pub collected : names ≡ setOf t q (λ c. named (entry t c))
+
+-- p is a child of q, r its rank
+pub record RankedChild (t : List ℕ) (q p r : ℕ) : Type 0 where
+  pub child : SubPlan t q p
+  pub ranked : r ≡ rank t p
+
+module _ (sets : List ℕ) (q : ℕ) where
+  -- the rank of the first child not done, where q retries aborted children or not; no child has it where there is none
+  abbrev pub TellsFirstNotDone : Bool → ℕ → Type 0
+  TellsFirstNotDone again r =
+      (t s : List ℕ) (p : ℕ) → ChildWords t s q sets → SubPlan t q p → again ≡ retryAborted (entry t q)
+      → eqb (rank t p) r ≡ eqb p (firstNotDone t s q)
+
+  -- whether the gate of a parallel plan is open
+  abbrev pub TellsGate : Bool → Type 0
+  TellsGate r = (t s : List ℕ) → ChildWords t s q sets → r ≡ gateOpen t s q
+
+  -- whether an any-order plan may activate a child
+  abbrev pub TellsMayActivate : Bool → Bool → Type 0
+  TellsMayActivate again r = (t s : List ℕ) → ChildWords t s q sets → again ≡ retryAborted (entry t q) → r ≡ mayActivate t s q
+
+  -- the rank of the child that is chosen under a pick; no child has it where none is Ready
+  abbrev pub TellsChosenRank : ℕ → ℕ → Type 0
+  TellsChosenRank pick r =
+      (t s : List ℕ) (picks : ℕ → ℕ) (p : ℕ) → ChildWords t s q sets → SubPlan t q p → picks q ≡ pick
+      → eqb (rank t p) r ≡ eqb p (chosen t s picks q)
+
+  -- whether the child of a rank, in a state, is the one that is chosen under a pick
+  abbrev pub TellsPicked : PlanState → ℕ → ℕ → Bool → Type 0
+  TellsPicked state k pick r =
+      (t s : List ℕ) (picks : ℕ → ℕ) (p : ℕ) → ChildWords t s q sets → RankedChild t q p k → picks q ≡ pick
+      → state ≡ stateAt s p → r ≡ eqb p (chosen t s picks q)
+
+  -- what q orders its child of a rank, `isChosen` saying whether that is the chosen one; and given q's states before and after
+  abbrev pub TellsOrders : PlanEntry → ℕ → Bool → Orders → Type 0
+  TellsOrders e k isChosen r =
+      (t s : List ℕ) (choice : ℕ → ℕ) (p : ℕ) → ChildWords t s q sets → RankedChild t q p k → e ≡ entry t q
+      → isChosen ≡ eqb p (choice q) → r ≡ orders t s choice q p
+
+  abbrev pub TellsOrdersIf : PlanState → PlanState → PlanEntry → ℕ → Bool → Orders → Type 0
+  TellsOrdersIf before after e k isChosen r =
+      (t s w : List ℕ) (choice : ℕ → ℕ) (p : ℕ) → ChildWords t s q sets → RankedChild t q p k → e ≡ entry t q
+      → isChosen ≡ eqb p (choice q) → r ≡ ordersIf t s w choice before after q p
+
+  -- whether all children are ended
+  abbrev pub TellsAllEnded : Bool → Type 0
+  TellsAllEnded r = (t s : List ℕ) → ChildWords t s q sets → r ≡ all (λ c. ended (stateAt s c)) (children t q)
+
+  -- whether too many children are lost, and whether they let q complete
+  abbrev pub TellsLost : PlanEntry → ℕ → Bool → Type 0
+  TellsLost e names r = (t s : List ℕ) → ChildWords t s q sets → OwnEntry t q e names → r ≡ tooManyLost t s q
+
+  abbrev pub TellsComplete : PlanEntry → ℕ → Bool → Type 0
+  TellsComplete e names r = (t s : List ℕ) → ChildWords t s q sets → OwnEntry t q e names → r ≡ childrenComplete t s q
+
+  -- the same where it counts: of a plan in execution
+  abbrev pub TellsLostIf : Bool → PlanEntry → ℕ → Bool → Type 0
+  TellsLostIf executing e names r =
+      (t s : List ℕ) → ChildWords t s q sets → OwnEntry t q e names → r ≡ (executing && tooManyLost t s q)
+
+  abbrev pub TellsCompleteIf : Bool → PlanEntry → ℕ → Bool → Type 0
+  TellsCompleteIf executing e names r =
+      (t s : List ℕ) → ChildWords t s q sets → OwnEntry t q e names → r ≡ (executing && childrenComplete t s q)
+
+  -- the move of q under a parent in execution, by its orders, word and old state and by what its children say
+  abbrev pub TellsMove : PlanEntry → ℕ → Orders → ℕ → PlanState → PlanState → PlanState → Type 0
+  TellsMove e names o x old after r =
+      (t s : List ℕ) → ChildWords t s q sets → OwnEntry t q e names
+      → r ≡ moveOn (is Suspended after) o (entry t q) x (tooManyLost t s q) (childrenComplete t s q) old

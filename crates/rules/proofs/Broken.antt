@@ -1,0 +1,118 @@
+-- What demand 3's last rules rule out: for each of them states, or states before and after a step, that break it, proved to break it,
+-- under a sequential plan (body 1) and under an any-order one (3). And picks that words may not hold explain nothing. So that none of
+-- these definitions can lose a part unseen. Assumes nothing.
+use Prim.Native.Nat.{ℕ, zero, suc}
+use native.Mathlib.Omega.{arith}
+use mathlib.Core.Bool.{false, true≢false}
+use mathlib.Core.Path.{_≡_, refl, sym, ap, _∙_}
+use mathlib.Core.Logic.{⊎-elim}
+use mathlib.Core.List.{List}
+use lib.Dec.{eqb}
+use borrow.Author.Tests.{eq-eqb}
+use Rattle.rules.specs.States.{code, stateAt}
+use Rattle.rules.specs.declared.PlanState.{PlanState}
+use Rattle.rules.specs.Table.{isOrIsAbove, childrenBefore, children}
+use Rattle.rules.specs.Record.{Explained}
+use Rattle.rules.specs.Demands.{SubPlan, Retried, AtMostOne, OnlyWhileParent, EndingsKept}
+use Rattle.rules.specs.Cases.{T1Of, states}
+
+-- a root with two leaves
+abbrev pair : ℕ → List ℕ
+pair body = T1Of body 0 0 2 0x20
+
+-- states with different codes are not the same
+differ : {x y : PlanState} → x ≡ y → eqb (code x) (code y) ≡ false → ⊥
+differ {x} {y} same different = true≢false (sym (eq-eqb (code x) (code y) (ap code same)) ∙ different)
+
+child-1 : (body : ℕ) → SubPlan (pair body) 0 1
+unfolding T1Of
+child-1 body = record { within = omega arith; child = tt }
+
+child-2 : (body : ℕ) → SubPlan (pair body) 0 2
+unfolding T1Of
+child-2 body = record { within = omega arith; child = tt }
+
+-- two children in execution
+pub two-of-a-sequential-plan : AtMostOne (pair 1) (states 444) → ⊥
+unfolding T1Of states stateAt
+two-of-a-sequential-plan rule = let same = rule 0 1 2 tt (child-1 1) (child-2 1) tt tt in omega arith
+
+pub two-of-an-any-order-plan : AtMostOne (pair 3) (states 455) → ⊥
+unfolding T1Of states stateAt
+two-of-an-any-order-plan rule = let same = rule 0 1 2 tt (child-1 3) (child-2 3) tt tt in omega arith
+
+-- whatever the body: a child that is Activated while its parent is Suspended
+pub activated-under-suspended : (body : ℕ) → OnlyWhileParent (pair body) (states 540) → ⊥
+unfolding T1Of states stateAt
+activated-under-suspended body rule = differ (rule 0 1 (child-1 body) refl) refl
+
+-- Whatever the body, a plan that has ended and is shown in another state, though nobody counts as retried for it.
+
+module _ (body : ℕ) where
+  -- a Completed and a Rejected plan that are considered again: they were not Aborted
+  pub completed-again : EndingsKept (pair body) (states 463) (states 413) → ⊥
+  unfolding T1Of states stateAt isOrIsAbove
+  completed-again rule =
+      ⊎-elim unlike (λ found. nobody (found .0) (found .1)) (rule 1 (omega arith) tt)
+    where
+      unlike : stateAt (states 413) 1 ≡ stateAt (states 463) 1 → ⊥
+      unlike same = differ same refl
+
+      nobody : (a : ℕ) → Retried (pair body) (states 463) (states 413) a 1 → ⊥
+      nobody zero r = differ (r .was) refl
+      nobody (suc zero) r = differ (r .was) refl
+      nobody (suc (suc zero)) r = differ (r .was) refl
+      nobody (suc (suc (suc a))) r = differ (r .was) refl
+
+  pub rejected-again : EndingsKept (pair body) (states 483) (states 413) → ⊥
+  unfolding T1Of states stateAt isOrIsAbove
+  rejected-again rule =
+      ⊎-elim unlike (λ found. nobody (found .0) (found .1)) (rule 1 (omega arith) tt)
+    where
+      unlike : stateAt (states 413) 1 ≡ stateAt (states 483) 1 → ⊥
+      unlike same = differ same refl
+
+      nobody : (a : ℕ) → Retried (pair body) (states 483) (states 413) a 1 → ⊥
+      nobody zero r = differ (r .was) refl
+      nobody (suc zero) r = differ (r .was) refl
+      nobody (suc (suc zero)) r = differ (r .was) refl
+      nobody (suc (suc (suc a))) r = differ (r .was) refl
+
+  -- an Aborted plan that goes on at once: it is not shown Considered
+  pub aborted-goes-on : EndingsKept (pair body) (states 473) (states 443) → ⊥
+  unfolding T1Of states stateAt isOrIsAbove
+  aborted-goes-on rule =
+      ⊎-elim unlike (λ found. nobody (found .0) (found .1)) (rule 1 (omega arith) tt)
+    where
+      unlike : stateAt (states 443) 1 ≡ stateAt (states 473) 1 → ⊥
+      unlike same = differ same refl
+
+      nobody : (a : ℕ) → Retried (pair body) (states 473) (states 443) a 1 → ⊥
+      nobody zero r = differ (r .was) refl
+      nobody (suc zero) r = differ (r .now) refl
+      nobody (suc (suc zero)) r = differ (r .was) refl
+      nobody (suc (suc (suc a))) r = differ (r .was) refl
+
+  -- a Completed plan beside one that is retried: that one is not above it
+  pub beside-a-retried-plan : EndingsKept (pair body) (states 476) (states 410) → ⊥
+  unfolding T1Of states stateAt isOrIsAbove
+  beside-a-retried-plan rule =
+      ⊎-elim unlike (λ found. nobody (found .0) (found .1)) (rule 2 (omega arith) tt)
+    where
+      unlike : stateAt (states 410) 2 ≡ stateAt (states 476) 2 → ⊥
+      unlike same = differ same refl
+
+      nobody : (a : ℕ) → Retried (pair body) (states 476) (states 410) a 2 → ⊥
+      nobody zero r = differ (r .was) refl
+      nobody (suc zero) r = r .isOrAbove
+      nobody (suc (suc zero)) r = differ (r .was) refl
+      nobody (suc (suc (suc a))) r = differ (r .was) refl
+
+-- Picks that words may not hold: another rank than a child's under an any-order plan, any but 0 under a sequential one.
+pub no-such-child : (s w shown : List ℕ) (k : ℕ) (e : Explained (pair 3) s w shown k) → e .pick 0 ≡ 2 → ⊥
+unfolding T1Of childrenBefore children
+no-such-child s w shown k e wild = rw wild at (e .allowed 0 (omega arith))
+
+pub no-pick-to-make : (s w shown : List ℕ) (k : ℕ) (e : Explained (pair 1) s w shown k) → e .pick 0 ≡ 1 → ⊥
+unfolding T1Of childrenBefore children
+no-pick-to-make s w shown k e wild = rw wild at (e .allowed 0 (omega arith))
