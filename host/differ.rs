@@ -1,6 +1,6 @@
 //! A differential tester: compares another implementation with reference.rs on random calls.
 //!
-//!     differ CHILD [ARGS..] --seed S --calls N [--patience SECONDS]
+//!     differ CHILD [ARGS..] --seed S --calls N [--reach-from N] [--patience SECONDS]
 //!
 //! starts CHILD with ARGS, writes requests to its standard input and reads answers from its
 //! standard output. All numbers are little-endian.
@@ -14,8 +14,9 @@
 //! Requests come in batches, so the child must send its answers before it waits for the next
 //! request. It ends when its standard input does.
 //!
-//! Status 0: N calls were made without a difference, and they reached every answer number 1 to 15
-//! and every move of a plan that the rules allow. Status 1: anything else.
+//! Status 0: N calls were made without a difference and without a move that the rules do not allow,
+//! and, from `REACH_FROM` calls on or as many as `--reach-from` says, they reached every answer number
+//! 1 to 15 and every move of a plan that the rules allow. Status 1: anything else.
 
 mod cases;
 mod reference;
@@ -43,27 +44,36 @@ fn main() -> ExitCode {
 // Command line
 // ------------------------------------------------------------------------------------------------
 
+/// From so many calls on a run is held to what it must reach. A shorter one may well miss a rare move,
+/// and that says nothing about the child.
+const REACH_FROM: u64 = 200_000;
+
 struct Options {
     /// The child's program and its arguments.
     child: Vec<String>,
     seed: u64,
     calls: u64,
+    /// `REACH_FROM`, or less for a shorter run whose seed is known to reach everything.
+    reach_from: u64,
     /// How long a batch may take before the child is taken to hang.
     patience: Duration,
 }
 
 impl Options {
-    /// `--seed`, `--calls` and `--patience` are the tester's; everything else is the child's.
+    /// `--seed`, `--calls`, `--reach-from` and `--patience` are the tester's; everything else is the
+    /// child's.
     fn from_arguments() -> Result<Options, String> {
-        let usage = "usage: differ CHILD [ARGS..] --seed S --calls N [--patience SECONDS]";
+        let usage = "usage: differ CHILD [ARGS..] --seed S --calls N [--reach-from N] [--patience SECONDS]";
         let patience = Duration::from_secs(120);
-        let mut options = Options { child: Vec::new(), seed: 1, calls: 200_000, patience };
+        let mut options =
+            Options { child: Vec::new(), seed: 1, calls: REACH_FROM, reach_from: REACH_FROM, patience };
         let mut arguments = std::env::args().skip(1);
         while let Some(argument) = arguments.next() {
             let mut number = || arguments.next().and_then(|text| text.parse().ok()).ok_or(usage);
             match argument.as_str() {
                 "--seed" => options.seed = number()?,
                 "--calls" => options.calls = number()?,
+                "--reach-from" => options.reach_from = number()?,
                 "--patience" => options.patience = Duration::from_secs(number()?),
                 _ => options.child.push(argument),
             }
@@ -124,6 +134,11 @@ fn run(options: &Options) -> Result<(), String> {
         start.elapsed().as_secs_f64()
     );
     counts.print();
+    counts.nothing_impossible()?;
+    if counts.calls() < options.reach_from {
+        println!("what must be reached is asked for from {} calls on", options.reach_from);
+        return Ok(());
+    }
     counts.all_reached()
 }
 
@@ -509,25 +524,32 @@ impl Counts {
         );
     }
 
-    /// Every number 1 to 15, every possible move, and no other.
+    /// No move but the possible ones, however few calls were made.
+    fn nothing_impossible(&self) -> Result<(), String> {
+        match self.first_move(|reached, possible| reached && !possible) {
+            Some((old, new)) => Err(format!("IMPOSSIBLE, yet reached: the move from {old} to {new}")),
+            None => Ok(()),
+        }
+    }
+
+    /// Every number 1 to 15 and every possible move.
     fn all_reached(&self) -> Result<(), String> {
         for number in 1..=LAST_NUMBER {
             if self.answers.iter().all(|kind| kind[number] == 0) {
                 return Err(format!("NOT REACHED: answer number {number}"));
             }
         }
-        for old in 0..9 {
-            for new in 0..9 {
-                match (self.moves[old][new] > 0, POSSIBLE_MOVES[old].contains(&new)) {
-                    (false, true) => return Err(format!("NOT REACHED: the move from {old} to {new}")),
-                    (true, false) => {
-                        return Err(format!("IMPOSSIBLE, yet reached: the move from {old} to {new}"))
-                    }
-                    _ => {}
-                }
-            }
+        match self.first_move(|reached, possible| possible && !reached) {
+            Some((old, new)) => Err(format!("NOT REACHED: the move from {old} to {new}")),
+            None => Ok(()),
         }
-        Ok(())
+    }
+
+    /// The first move that is wrong, given whether it was reached and whether it is possible.
+    fn first_move(&self, is_wrong: impl Fn(bool, bool) -> bool) -> Option<(usize, usize)> {
+        (0..9)
+            .flat_map(|old| (0..9).map(move |new| (old, new)))
+            .find(|&(old, new)| is_wrong(self.moves[old][new] > 0, POSSIBLE_MOVES[old].contains(&new)))
     }
 }
 
