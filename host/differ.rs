@@ -23,7 +23,7 @@ mod reference;
 #[cfg(test)]
 mod self_test;
 
-use cases::{Call, Kind, Maker};
+use cases::{hex, Call, Kind, Maker};
 use std::io::{self, BufReader, Read, Write};
 use std::process::{Child, ChildStdin, ChildStdout, Command, ExitCode, Stdio};
 use std::sync::mpsc::{self, RecvTimeoutError};
@@ -192,10 +192,6 @@ fn in_words(answer: u64) -> String {
 
 fn number_of(answer: u64) -> u64 {
     answer & 0xFFFF
-}
-
-fn hex(bytes: &[u8]) -> String {
-    bytes.iter().map(|byte| format!("{byte:02x}")).collect()
 }
 
 // ------------------------------------------------------------------------------------------------

@@ -7,28 +7,16 @@
 
 #[allow(dead_code)]
 mod cases;
+mod program;
 #[allow(dead_code)]
 mod reference;
 
-use cases::{Dice, Kind, Maker};
-use std::io::Write;
-use std::process::{Command, ExitCode, Stdio};
-
-/// "16: program input over 65,536 bytes"
-const MOST_BYTES: usize = 65_536;
+use cases::{hex, Dice, Kind, Maker};
+use program::{printed, refusal_line, Options, MOST_BYTES};
+use std::process::ExitCode;
 
 fn main() -> ExitCode {
-    let mut program = Vec::new();
-    let (mut seed, mut inputs) = (1, 300);
-    let mut arguments = std::env::args().skip(1);
-    while let Some(argument) = arguments.next() {
-        let mut number = || arguments.next().and_then(|text| text.parse().ok()).expect("a number");
-        match argument.as_str() {
-            "--seed" => seed = number(),
-            "--inputs" => inputs = number(),
-            _ => program.push(argument),
-        }
-    }
+    let Options { program, seed, count: inputs } = Options::from_arguments("--inputs", 300);
     let mut maker = Maker::new(seed);
     let mut dice = Dice::new(seed);
     let mut accepted = 0;
@@ -70,11 +58,10 @@ fn line(input: &[u8]) -> String {
     }
     let (table, record) = input.split_at(table_length(input));
     let answer = reference::check(table, record);
-    let (number, plan, step) = (answer & 0xFFFF, answer >> 16 & 0xFFFF, answer >> 32);
-    if number == 0 {
-        format!("accepted {} {step}\n", plan_count(input))
+    if answer & 0xFFFF == 0 {
+        format!("accepted {} {}\n", plan_count(input), answer >> 32)
     } else {
-        format!("refused {number} {step} {plan}\n")
+        refusal_line(answer)
     }
 }
 
@@ -99,24 +86,4 @@ fn plan_count(input: &[u8]) -> usize {
     } else {
         usize::from(input[5]) + 256 * usize::from(input[6])
     }
-}
-
-/// What the program prints for an input.
-fn printed(program: &[String], input: &[u8]) -> String {
-    let mut process = Command::new(&program[0])
-        .args(&program[1..])
-        .stdin(Stdio::piped())
-        .stdout(Stdio::piped())
-        .spawn()
-        .expect("the program starts");
-    let mut to_program = process.stdin.take().expect("a pipe");
-    // a program that has seen enough may stop reading
-    let _ = to_program.write_all(input);
-    drop(to_program);
-    let output = process.wait_with_output().expect("the program ends");
-    String::from_utf8_lossy(&output.stdout).into_owned()
-}
-
-fn hex(bytes: &[u8]) -> String {
-    bytes.iter().map(|byte| format!("{byte:02x}")).collect()
 }

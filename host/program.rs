@@ -1,0 +1,57 @@
+//! What lines.rs and trees.rs share: their command line, and a program that is started on an input.
+
+use crate::reference::Answer;
+use std::io::Write;
+use std::process::{Command, Stdio};
+
+/// What a program takes at most: "16: program input over 65,536 bytes" of `aprcheck`, and `trials` reads no more.
+pub const MOST_BYTES: usize = 65_536;
+
+pub struct Options {
+    /// The program and its arguments.
+    pub program: Vec<String>,
+    pub seed: u64,
+    /// How much is compared.
+    pub count: usize,
+}
+
+impl Options {
+    /// `--seed` and the option named `count_option` are the tester's; everything else is the program's.
+    pub fn from_arguments(count_option: &str, count: usize) -> Options {
+        let mut options = Options { program: Vec::new(), seed: 1, count };
+        let mut arguments = std::env::args().skip(1);
+        while let Some(argument) = arguments.next() {
+            let mut number = || arguments.next().and_then(|text| text.parse::<u64>().ok()).expect("a number");
+            if argument == "--seed" {
+                options.seed = number();
+            } else if argument == count_option {
+                options.count = number() as usize;
+            } else {
+                options.program.push(argument);
+            }
+        }
+        options
+    }
+}
+
+/// What the program prints for an input. Both programs read all that they take before they print.
+pub fn printed(program: &[String], input: &[u8]) -> String {
+    let mut process = Command::new(&program[0])
+        .args(&program[1..])
+        .stdin(Stdio::piped())
+        .stdout(Stdio::piped())
+        .spawn()
+        .expect("the program starts");
+    let mut to_program = process.stdin.take().expect("a pipe");
+    // a program that has seen enough may stop reading
+    let _ = to_program.write_all(input);
+    drop(to_program);
+    let output = process.wait_with_output().expect("the program ends");
+    String::from_utf8_lossy(&output.stdout).into_owned()
+}
+
+/// The line of a refusal, with its end: "`refused number step plan`".
+pub fn refusal_line(answer: Answer) -> String {
+    let (number, plan, step) = (answer & 0xFFFF, answer >> 16 & 0xFFFF, answer >> 32);
+    format!("refused {number} {step} {plan}\n")
+}
