@@ -922,3 +922,23 @@ fn try_check(table: &[u8], record: &[u8]) -> Result<Answer, Answer> {
     compare_steps(&plans, record, steps)?;
     Ok(answer(DONE, 0, steps))
 }
+
+/// The sub tree question: "a part of the caller's own state slice, from the plan through its last
+/// descendant; it is empty exactly for a refused table, a wrong length, or a plan not below n."
+#[allow(dead_code)] // Not exported to C, so differ.rs does not ask it: trees.rs and the tests do.
+pub fn sub_tree<'a>(table: &[u8], states: &'a [u8], p: usize) -> &'a [u8] {
+    match read_table(table) {
+        Ok(plans) if states.len() == plans.len() && p < plans.len() => &states[p..=last_descendant(&plans, p)],
+        _ => &[],
+    }
+}
+
+/// The highest plan at or below p in the tree: of a leaf, the leaf itself.
+fn last_descendant(plans: &[Plan], p: usize) -> usize {
+    (0..plans.len()).rev().find(|&q| is_or_descends_from(plans, q, p)).expect("p itself")
+}
+
+/// Whether p is met on the way from q up to the root.
+fn is_or_descends_from(plans: &[Plan], q: usize, p: usize) -> bool {
+    q == p || plans[q].parent.is_some_and(|parent| is_or_descends_from(plans, parent, p))
+}

@@ -164,6 +164,26 @@ fn records_of_t1() {
     assert_eq!(reference::check(&T1, &record_of(&steps)[..22]), answer(14, 0, 0));
 }
 
+/// Plan 0 has the children 1 and 4, plan 1 the leaves 2 and 3.
+#[test]
+fn sub_trees_of_five_plans() {
+    let mut table = b"APT\x01\x00\x05\x00\x00".to_vec();
+    for (parent, body) in [(65_535u16, 4), (0, 1), (1, 0), (1, 0), (0, 0)] {
+        table.extend(parent.to_le_bytes());
+        table.extend([body, 0, 0, 0, 0, 0]);
+    }
+    let states = [10, 11, 12, 13, 14];
+    let parts: [&[u8]; 7] = [&states, &[11, 12, 13], &[12], &[13], &[14], &[], &[]];
+    for (p, part) in parts.into_iter().enumerate() {
+        assert_eq!(reference::sub_tree(&table, &states, p), part, "of plan {p}");
+    }
+    let empty: &[u8] = &[];
+    assert_eq!(reference::sub_tree(&table, &states, 65_535), empty);
+    assert_eq!(reference::sub_tree(&table, &states[..4], 0), empty);
+    assert_eq!(reference::sub_tree(&table, &[0; 6], 0), empty);
+    assert_eq!(reference::sub_tree(&table[..47], &states, 0), empty);
+}
+
 // ------------------------------------------------------------------------------------------------
 // Random comparisons
 // ------------------------------------------------------------------------------------------------
@@ -318,5 +338,25 @@ fn states_that_may_be_handed_in_lead_to_such_states() {
         let (plans, states, words) = small_case(&mut dice, 14);
         let new = reference::new_states(&Before { plans: &plans, states: &states, words: &words });
         assert!((0..plans.len()).all(|p| !reference::breaks_a_rule(&plans, &new, p)));
+    }
+}
+
+/// A plan and its descendants, found from above: in preorder.
+fn with_descendants(plans: &[Plan], p: usize) -> Vec<u8> {
+    let below = plans[p].children.iter().flat_map(|&child| with_descendants(plans, child));
+    std::iter::once(p as u8).chain(below).collect()
+}
+
+#[test]
+fn a_sub_tree_is_the_plan_and_its_descendants_and_no_other() {
+    let mut dice = Dice::new(4);
+    for _ in 0..2_000 {
+        let n = dice.between(1, 40);
+        let table = cases::good_table(&mut dice, n);
+        let plans = reference::read_table(&table).unwrap_or_else(|_| panic!("a good table"));
+        let numbers: Vec<u8> = (0..n as u8).collect();
+        for p in 0..n {
+            assert_eq!(reference::sub_tree(&table, &numbers, p), with_descendants(&plans, p));
+        }
     }
 }
