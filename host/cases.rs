@@ -47,7 +47,7 @@ impl Dice {
         choices[self.below(choices.len())]
     }
 
-    fn byte(&mut self) -> u8 {
+    pub fn byte(&mut self) -> u8 {
         self.roll() as u8
     }
 }
@@ -269,7 +269,7 @@ fn header(mark: &[u8; 3], n: usize) -> Vec<u8> {
 }
 
 /// Most tables are small, some middling, few big.
-fn plan_count(dice: &mut Dice) -> usize {
+pub fn plan_count(dice: &mut Dice) -> usize {
     match dice.below(1000) {
         0..=79 => dice.between(1, 2),
         80..=869 => dice.between(3, 12),
@@ -313,7 +313,7 @@ fn table_of_257_plans(dice: &mut Dice) -> Vec<u8> {
 }
 
 /// Spoils a table in one place. By chance the result may still be good.
-fn spoil_table(dice: &mut Dice, table: &mut Vec<u8>) {
+pub fn spoil_table(dice: &mut Dice, table: &mut Vec<u8>) {
     match dice.below(100) {
         0..=3 => table.truncate(dice.below(HEADER)),
         4..=19 => spoil_header(dice, table),
@@ -481,7 +481,7 @@ fn change_word(dice: &mut Dice, words: &mut [u8], change: impl Fn(&mut Dice, u32
 }
 
 /// Another length for states or words: none, a few bytes fewer or more, or twice as many.
-fn spoil_slice_length(dice: &mut Dice, bytes: &mut Vec<u8>) {
+pub fn spoil_slice_length(dice: &mut Dice, bytes: &mut Vec<u8>) {
     match dice.below(5) {
         0 => bytes.clear(),
         1 | 2 => bytes.truncate(bytes.len().saturating_sub(dice.between(1, 4))),
