@@ -145,7 +145,7 @@ fn ask_about_a_table(dice: &mut Dice, questions: &mut Vec<Question>) {
     let mut table = cases::good_table(dice, n);
     if dice.percent(50) {
         for _ in 0..dice.one_of(&[1, 1, 2, 3]) {
-            cases::spoil_table(dice, &mut table);
+            spoil(dice, &mut table, n);
         }
     }
     let (check, passes) = check_of(&table);
@@ -155,6 +155,34 @@ fn ask_about_a_table(dice: &mut Dice, questions: &mut Vec<Question>) {
         let states = states(dice, n);
         let plan = plan(dice, n);
         questions.push(sub_tree_of(&table, &states, plan));
+    }
+}
+
+/// As for the calls, and besides what is seldom met there: a header alone, a named root, a plan that is made a leaf and keeps nothing else
+/// that a leaf may not have, and a flag that a leaf may not have.
+fn spoil(dice: &mut Dice, table: &mut Vec<u8>, n: usize) {
+    let p = dice.below(n);
+    match dice.below(20) {
+        0 => table.truncate(reference::HEADER_BYTES),
+        1 => change_entry(table, 0, |entry| entry[3] |= 1 << reference::NAMED),
+        2 => change_entry(table, p, |entry| {
+            entry[2] = reference::LEAF;
+            entry[3] &= 1 << reference::NAMED;
+            entry[7] = 0;
+        }),
+        3 => {
+            let flag = dice.one_of(&[reference::RETRY_ABORTED, reference::WAIT_FOR_OPTIONAL]);
+            change_entry(table, p, |entry| entry[3] |= 1 << flag);
+        }
+        _ => cases::spoil_table(dice, table),
+    }
+}
+
+/// Changes the entry of plan p, if the table is still that long.
+fn change_entry(table: &mut [u8], p: usize, change: impl Fn(&mut [u8])) {
+    let start = reference::HEADER_BYTES + reference::PLAN_BYTES * p;
+    if let Some(entry) = table.get_mut(start..start + reference::PLAN_BYTES) {
+        change(entry);
     }
 }
 
