@@ -140,7 +140,12 @@ module _
     ranked-more k lk (yes e) = rw (e, ← eq) (getD-set-same ranks p r 0 (omega arith) ∙ rank-is)
     ranked-more k lk (no ne) = getD-set-other ranks p k r 0 ne ∙ before .found .ranked k (omega arith)
 
-    counted-more : (k : ℕ) → k < p + 1 → Dec (k ≡ q) → Dec (k ≡ p) → getD (set (set counts p 0) q (r + 1)) k 0 ≡ length (childrenBefore t k (suc p))
+    counted-more :
+        (k : ℕ)
+        → k < p + 1
+        → Dec (k ≡ q)
+        → Dec (k ≡ p)
+        → getD (set (set counts p 0) q (r + 1)) k 0 ≡ length (childrenBefore t k (suc p))
     counted-more k lk (yes e) d =
         rw (e, children-own t q p (before .started) (sym eq))
         (getD-set-same (set counts p 0) q (r + 1) 0 (simp length-set (omega (arith, above)))

@@ -39,23 +39,25 @@ loop-holds c =
 
 turn-at :
     (c : tie.After-bit-if Inv-loop μ-loop)
-    → CollectTurn
-    (now (c .before .before .before .before .before .before .before .before .before .before .args .table))
-    (c .before .before .before .before .before .before .before .before .before .before .args .n)
-    (λ k. named (entry (now (c .before .before .before .before .before .before .before .before .before .before .args .table)) k))
-    (set (now (c .before .before .before .before .before .before .before .before .before .before .args .words)) 0 0)
-    (c .before .before .before .before .before .before .loop .p)
-    (c .before .before .before .before .before .before .loop .words)
+    → let turn = c .before .before .before .before .before .before in
+    let args = turn .before .before .before .before .args in
+    CollectTurn
+    (now (args .table))
+    (args .n)
+    (λ k. named (entry (now (args .table)) k))
+    (set (now (args .words)) 0 0)
+    (turn .loop .p)
+    (turn .loop .words)
     (c .before .before .before .before .parent-at .result)
     (c .bit-if .result)
 turn-at c =
-    let pre = c .before .before .before .before .before .before .before .before .before .before .pre in
-    let at = c .before .before .before .before .before .before .loop in
+    let turn = c .before .before .before .before .before .before in
+    let pre = turn .before .before .before .before .pre in
     let inside = c .before .before .before .before .before .loop-test .taken in
-    collect-turn _ _ _ (pre .0) _ _ _ (at .inv) inside (pre .1 .0 .narrow _ inside) _ _ (c .before .before .before .before .parent-at .ensures)
-    (c .bit-if .ensures
-    ∙ ap₂ (λ (b : Bool) (r : ℕ). cond b 1 0 * 2 ^ r) (c .before .before .is-named .ensures ∙ ap named (c .before .before .before .entry-at .ensures))
-    (pre .1 .0 .ranked _ inside))
+    let parent = c .before .before .before .before .parent-at .ensures in
+    let flag = c .before .before .is-named .ensures ∙ ap named (c .before .before .before .entry-at .ensures) in
+    collect-turn _ _ _ (pre .0) _ _ _ (turn .loop .inv) inside (pre .1 .0 .narrow _ inside) _ _ parent
+    (c .bit-if .ensures ∙ ap₂ (λ (b : Bool) (r : ℕ). cond b 1 0 * 2 ^ r) flag (pre .1 .0 .ranked _ inside))
 
 returns : tie.Need-returns Inv-loop μ-loop
 returns c =

@@ -29,7 +29,8 @@ loop-holds c =
     resurvey-root _ _ _ _ _ (pre .1 .0 .some) (pre .1 .1 .1 .0 .3) (pre .1 .1 .1 .1)
 
 loop-again : tie.Need-loop-again Inv-loop μ-loop
-loop-again c = resurvey-skip _ _ _ _ _ _ _ (c .before .before .before .before .loop .inv) (c .before .before .before .loop-test .taken) (c .if1 .taken)
+loop-again c =
+    resurvey-skip _ _ _ _ _ _ _ (c .before .before .before .before .loop .inv) (c .before .before .before .loop-test .taken) (c .if1 .taken)
 
 bit-if-requires : tie.Need-bit-if-requires Inv-loop μ-loop
 bit-if-requires c κs =
@@ -38,42 +39,48 @@ bit-if-requires c κs =
     rw (narrow .ranked _ inside) (narrow .narrow _ inside)
 
 -- the parent comes before, and both states are codes
-above : (c : tie.After-parent-at Inv-loop μ-loop) → c .parent-at .result < c .before .before .before .before .before .loop .p
-above c =
-    omega
-    (arith, c .before .before .before .before .before .before .before .before .before .before .before .pre .0 .down _ (c .before .before .before .before .before .loop .inv .started) (c .before .before .before .before .loop-test .taken), c .parent-at .ensures)
-
-codes :
-    (c : tie.In-loop Inv-loop μ-loop)
-    → (byteAt (now (c .before .before .before .before .before .before .before .args .old)) (c .before .loop .p) < 9)
-    × (byteAt (now (c .before .before .before .before .before .before .before .args .new)) (c .before .loop .p) < 9)
-codes c = c .before .before .before .before .before .before .before .pre .1 .1 .0 _ (c .loop-test .taken)
+bounds :
+    (c : tie.After-parent-at Inv-loop μ-loop)
+    → let turn = c .before .before .before .before .before in
+    let args = turn .before .before .before .before .before .before .args in
+    (c .parent-at .result < turn .loop .p)
+    × (byteAt (now (args .old)) (turn .loop .p) < 9)
+    × (byteAt (now (args .new)) (turn .loop .p) < 9)
+bounds c =
+    let turn = c .before .before .before .before .before in
+    let pre = turn .before .before .before .before .before .before .pre in
+    let inside = c .before .before .before .before .loop-test .taken in
+    let codes = pre .1 .1 .0 _ inside in
+    (omega (arith, pre .0 .down _ (turn .loop .inv .started) inside, c .parent-at .ensures), codes .0, codes .1)
 
 turn-at :
     (c : tie.After-wide2 Inv-loop μ-loop)
-    → ResurveyTurn
-    (now (c .before .before .before .before .before .before .before .before .before .before .before .before .before .before .before .before .before .args .table))
-    (now (c .before .before .before .before .before .before .before .before .before .before .before .before .before .before .before .before .before .args .old))
-    (now (c .before .before .before .before .before .before .before .before .before .before .before .before .before .before .before .before .before .args .new))
-    (c .before .before .before .before .before .before .before .before .before .before .before .before .before .before .before .before .before .args .n)
-    (now (c .before .before .before .before .before .before .before .before .before .before .before .before .before .before .before .before .before .args .sets))
-    (c .before .before .before .before .before .before .before .before .before .before .before .loop .p)
-    (c .before .before .before .before .before .before .before .before .before .before .before .loop .sets)
+    → let turn = c .before .before .before .before .before .before .before .before .before .before .before in
+    let args = turn .before .before .before .before .before .before .args in
+    ResurveyTurn
+    (now (args .table))
+    (now (args .old))
+    (now (args .new))
+    (args .n)
+    (now (args .sets))
+    (turn .loop .p)
+    (turn .loop .sets)
     (c .before .before .before .before .before .before .parent-at .result)
     (c .before .before .wide .result)
     (c .wide2 .result)
     (c .before .before .before .before .bit-if .result)
 turn-at c =
-    let pre = c .before .before .before .before .before .before .before .before .before .before .before .before .before .before .before .before .before .pre in
+    let turn = c .before .before .before .before .before .before .before .before .before .before .before in
+    let pre = turn .before .before .before .before .before .before .pre in
     let inside = c .before .before .before .before .before .before .before .before .before .before .loop-test .taken in
     let old = c .before .before .wide .ensures in
     let new = c .wide2 .ensures in
-    resurvey-turn _ _ _ _ _ (pre .0) (pre .1 .0 .narrow) _ _ (c .before .before .before .before .before .before .before .before .before .before .before .loop .inv) inside _ _ _ _
+    resurvey-turn _ _ _ _ _ (pre .0) (pre .1 .0 .narrow) _ _ (turn .loop .inv) inside _ _ _ _
     (c .before .before .before .before .before .before .parent-at .ensures)
     old
     new
-    (rw old (codes (c .before .before .before .before .before .before .before .before .before .before) .0))
-    (rw new (codes (c .before .before .before .before .before .before .before .before .before .before) .1))
+    (rw old (bounds (c .before .before .before .before .before .before) .1))
+    (rw new (bounds (c .before .before .before .before .before .before) .2))
     (λ e. c .before .before .before .before .before .before .before .if1 .left (sym old ∙ e ∙ new))
     (c .before .before .before .before .bit-if .ensures ∙ omega (arith, ap (λ (r : ℕ). 2 ^ r) (pre .1 .0 .ranked _ inside)))
 
@@ -95,19 +102,19 @@ resurvey-spec =
     (λ c κs. omega arith)
     (λ c. omega arith)
     bit-if-requires
-    (λ c. omega (arith, above (c .before .before)))
+    (λ c. omega (arith, bounds (c .before .before)))
     (λ c. omega arith)
     (λ c κs. search needs)
-    (λ c. omega (arith, above (c .before .before .before .before), c .wide .ensures, codes (c .before .before .before .before .before .before .before .before)))
-    (λ c. omega (arith, above (c .before .before .before .before)))
+    (λ c. omega (arith, c .wide .ensures, bounds (c .before .before .before .before)))
+    (λ c. omega (arith, bounds (c .before .before .before .before)))
     (λ c. omega arith)
     (λ c κs. search needs)
-    (λ c. omega (arith, above (c .before .before .before .before .before .before), c .wide2 .ensures, codes (c .before .before .before .before .before .before .before .before .before .before)))
-    (λ c. omega (arith, turn-at c .above, c .before .before .wide .ensures, codes (c .before .before .before .before .before .before .before .before .before .before)))
+    (λ c. omega (arith, c .wide2 .ensures, bounds (c .before .before .before .before .before .before)))
+    (λ c. omega (arith, c .before .before .wide .ensures, bounds (c .before .before .before .before .before .before)))
     (λ c. turn-at (c .before) .reads)
     (λ c. omega (arith, turn-at (c .before) .has))
     (λ c. turn-at (c .before) .reads)
-    (λ c. omega (arith, turn-at (c .before) .above, c .before .wide2 .ensures, codes (c .before .before .before .before .before .before .before .before .before .before .before)))
+    (λ c. omega (arith, c .before .wide2 .ensures, bounds (c .before .before .before .before .before .before .before)))
     (λ c. turn-at (c .before .before) .reads-next _)
     (λ c. record { fits = turn-at (c .before .before) .fits _ })
     (λ c. turn-at (c .before .before) .reads-next _)

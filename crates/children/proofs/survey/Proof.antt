@@ -29,28 +29,37 @@ loop-holds c =
 
 turn-at :
     (c : tie.After-bit-if Inv-loop μ-loop)
-    → SurveyTurn
-    (now (c .before .before .before .before .before .before .before .before .before .before .before .args .table))
-    (now (c .before .before .before .before .before .before .before .before .before .before .before .args .states))
-    (c .before .before .before .before .before .before .before .before .before .before .before .args .n)
-    (now (c .before .before .before .before .before .before .before .before .before .before .before .args .sets))
-    (c .before .before .before .before .before .before .loop .p)
-    (c .before .before .before .before .before .before .loop .sets)
+    → let turn = c .before .before .before .before .before .before in
+    let args = turn .before .before .before .before .before .args in
+    SurveyTurn
+    (now (args .table))
+    (now (args .states))
+    (args .n)
+    (now (args .sets))
+    (turn .loop .p)
+    (turn .loop .sets)
     (c .before .before .before .before .parent-at .result)
     (c .before .before .wide .result)
     (c .bit-if .result)
 turn-at c =
-    let pre = c .before .before .before .before .before .before .before .before .before .before .before .pre in
+    let turn = c .before .before .before .before .before .before in
+    let pre = turn .before .before .before .before .before .pre in
     let inside = c .before .before .before .before .before .loop-test .taken in
+    let parent = c .before .before .before .before .parent-at .ensures in
     let state = c .before .before .wide .ensures in
-    survey-turn _ _ _ _ (pre .0) _ _ (c .before .before .before .before .before .before .loop .inv) inside (pre .1 .0 .narrow _ inside) _ _ _ (c .before .before .before .before .parent-at .ensures) state
+    survey-turn _ _ _ _ (pre .0) _ _ (turn .loop .inv) inside (pre .1 .0 .narrow _ inside) _ _ _ parent state
     (rw state (pre .1 .1 .0 _ inside))
     (c .bit-if .ensures ∙ omega (arith, ap (λ (r : ℕ). 2 ^ r) (pre .1 .0 .ranked _ inside)))
 
 above : (c : tie.After-parent-at Inv-loop μ-loop) → c .parent-at .result < c .before .before .loop .p
-above c = omega (arith, c .before .before .before .before .before .before .before .pre .0 .down _ (c .before .before .loop .inv .started) (c .before .loop-test .taken), c .parent-at .ensures)
+above c =
+    let turn = c .before .before in
+    let rooted = turn .before .before .before .before .before .pre .0 in
+    omega (arith, rooted .down _ (turn .loop .inv .started) (c .before .loop-test .taken), c .parent-at .ensures)
 
-code : (c : tie.After-parent-at Inv-loop μ-loop) → byteAt (now (c .before .before .before .before .before .before .before .args .states)) (c .before .before .loop .p) < 9
+code :
+    (c : tie.After-parent-at Inv-loop μ-loop)
+    → byteAt (now (c .before .before .before .before .before .before .before .args .states)) (c .before .before .loop .p) < 9
 code c = c .before .before .before .before .before .before .before .pre .1 .1 .0 _ (c .before .loop-test .taken)
 
 bit-if-requires : tie.Need-bit-if-requires Inv-loop μ-loop
