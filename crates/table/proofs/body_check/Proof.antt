@@ -37,7 +37,7 @@ range c =
     (omega (arith, h .some, c .u16-at .ensures), omega (arith, h .small, c .u16-at .ensures))
 
 -- the table is as long as its number of plans says
-long : (c : tie.Else1) → length (now (c .before .before .before .before .before .before .args .table)) ≡ 8 + 8 * planCount (now (c .before .before .before .before .before .before .args .table))
+long : (c : tie.Else1) → let t = now (c .before .before .before .before .before .before .args .table) in length t ≡ 8 + 8 * planCount t
 long c = c .if1 .left ∙ ap (λ (k : ℕ). 8 + 8 * k) (c .before .u16-at .ensures)
 
 -- the buffers have room for its plans
@@ -60,11 +60,13 @@ lowest-bad-parent-requires c κs =
 
 returns-2 : tie.Need-returns-2
 returns-2 c =
-    let start = c .before .before .before .before .before .before .before .before .before .before .before .before .before .before in
+    let sized = c .before .before .before .before .before .before .before .before in
+    let start = sized .before .before .before .before .before .before in
     let t = now (start .args .table) in
+    let lowest = c .before .before .before .before .before .lowest-bad-parent .ensures .lowest in
     refused-checked _ _ _ _ _
-    (stops-at-parent t (start .pre .0) (long (c .before .before .before .before .before .before .before .before)) _
-    (found-at t _ (c .before .before .before .before .before .before .before .before .before .u16-at .ensures) _ _ (c .before .before .before .before .before .lowest-bad-parent .ensures .lowest) (c .if2 .taken)))
+    (stops-at-parent t (start .pre .0) (long sized) _
+    (found-at t _ (sized .before .u16-at .ensures) _ _ lowest (c .if2 .taken)))
 
 collect-named-requires : tie.Need-collect-named-requires
 collect-named-requires c κs =
@@ -75,22 +77,28 @@ collect-named-requires c κs =
 
 plans-check-requires : tie.Need-plans-check-requires
 plans-check-requires c κs =
-    let room = rooms (c .before .before .before .before .before .before .before .before .before .before .before .before .before .before .before) in
-    known _ _ (c .before .before .before .before .before .before .before .before .before .before .before .before .before .before .before .before .u16-at .ensures) _ _ _ _ (c .before .before .before .before .before .before .before .before .before .before .before .before .lowest-bad-parent .ensures) (c .before .before .before .before .before .before .before .if2 .left)
+    let parents = c .before .before .before .before .before .before .before in
+    let sized = parents .before .before .before .before .before .before .before .before in
+    let room = rooms sized in
+    let shaped = parents .before .before .before .before .before .lowest-bad-parent .ensures in
+    known _ _ (sized .before .u16-at .ensures) _ _ _ _ shaped (parents .if2 .left)
     (c .before .before .before .before .collect-named .ensures .0)
     (omega (arith, room .1))
     (omega (arith, room .2))
 
 returns-3 : tie.Need-returns-3
 returns-3 c =
-    let start = c .before .before .before .before .before .before .before .before .before .before .before .before .before .before .before .before .before .before .before .before .before .before in
+    let parents = c .before .before .before .before .before .before .before .before in
+    let sized = parents .before .before .before .before .before .before .before .before in
+    let start = sized .before .before .before .before .before .before in
     let t = now (start .args .table) in
-    let whole = c .before .before .before .before .before .before .before .before .before .before .before .before .before .before .before .before .before .u16-at .ensures in
-    let shaped = c .before .before .before .before .before .before .before .before .before .before .before .before .before .lowest-bad-parent .ensures in
-    let none = c .before .before .before .before .before .before .before .before .if2 .left in
+    let whole = sized .before .u16-at .ensures in
+    let shaped = parents .before .before .before .before .before .lowest-bad-parent .ensures in
+    let none = parents .if2 .left in
+    let collected = c .before .before .before .before .before .collect-named .ensures .0 in
     record {
-      is = c .plans-check .ensures ∙ sym (goes-on t (start .pre .0) (long (c .before .before .before .before .before .before .before .before .before .before .before .before .before .before .before .before)) (found-none t _ whole _ _ (shaped .lowest) none));
-      facts = λ _. facts t _ whole _ _ _ _ shaped none (c .before .before .before .before .before .collect-named .ensures .0) (c .before .before .before .before .before .before .before .before .before .before .before .before .before .before .before .before .if1 .left);
+      is = c .plans-check .ensures ∙ sym (goes-on t (start .pre .0) (long sized) (found-none t _ whole _ _ (shaped .lowest) none));
+      facts = λ _. facts t _ whole _ _ _ _ shaped none collected (sized .if1 .left);
     }
 
 pub body-check-spec : {M : Type 1} → statement M

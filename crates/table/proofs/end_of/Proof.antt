@@ -27,8 +27,8 @@ loop-holds c =
 -- the test at i, as the code has it
 tested :
     (c : tie.After-parent-at Inv-loop μ-loop)
-    → outside (now (c .before .before .before .before .args .table)) (c .before .before .before .before .args .plan) (c .before .before .loop .i)
-    ≡ ltb (c .parent-at .result) (c .before .before .before .before .args .plan)
+    → let args = c .before .before .before .before .args in
+    outside (now (args .table)) (args .plan) (c .before .before .loop .i) ≡ ltb (c .parent-at .result) (args .plan)
 tested c =
     let start = c .before .before .before .before in
     let plan = start .args .plan in

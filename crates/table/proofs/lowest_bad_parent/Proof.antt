@@ -14,9 +14,10 @@ rank-children-requires c κs =
 
 returns : tie.Need-returns
 returns c =
-    let pre = c .before .before .before .before .before .before .before .before .before .before .before .before .before .pre in
-    shaped _ _ (pre .0 .0) (pre .0 .1) (pre .0 .2) _ _ _ _ (c .before .before .before .before .before .before .before .before .before .lowest-unrooted .ensures) (c .before .before .before .before .before .before .rank-children .ensures .0)
-    (c .lowest-crowded .ensures)
+    let first = c .before .before .before .before .before .before .before .before .before in
+    let table = first .before .before .before .before .pre .0 in
+    let ranked = c .before .before .before .before .before .before .rank-children .ensures .0 in
+    shaped _ _ (table .0) (table .1) (table .2) _ _ _ _ (first .lowest-unrooted .ensures) ranked (c .lowest-crowded .ensures)
 
 pub lowest-bad-parent-spec : {M : Type 1} → statement M
 lowest-bad-parent-spec =

@@ -23,22 +23,30 @@ abbrev μ-loop : tie.MeasureT-loop
 -- the rule at p, as the code has it
 tested :
     (c : tie.After-breaks Inv-loop μ-loop)
-    → breaking (c .before .before .before .before .before .before .before .before .before .args .rule) (now (c .before .before .before .before .before .before .before .before .before .args .table)) (c .before .before .before .before .before .loop .p) ≡ c .breaks .result
+    → let turn = c .before .before .before .before .before in
+    let args = turn .before .before .before .before .args in
+    breaking (args .rule) (now (args .table)) (turn .loop .p) ≡ c .breaks .result
 tested c =
-    let start = c .before .before .before .before .before .before .before .before .before in
-    let p = c .before .before .before .before .before .loop .p in
+    let turn = c .before .before .before .before .before in
+    let start = turn .before .before .before .before in
+    let p = turn .loop .p in
+    let rule = start .args .rule in
     let counts = now (start .args .counts) in
     let names = now (start .args .names) in
+    let inside = c .before .before .before .before .loop-test .taken in
     sym
     (c .breaks .ensures
-    ∙ ap (λ (e : PlanEntry). breaksEntry (start .args .rule) p (getD counts p 0) (getD names p 0) e) (c .before .before .before .entry-at .ensures)
-    ∙ breaks-is (start .args .rule) (now (start .args .table)) (start .args .n) counts names (start .pre) p (c .before .before .before .before .loop-test .taken))
+    ∙ ap (λ (e : PlanEntry). breaksEntry rule p (getD counts p 0) (getD names p 0) e) (c .before .before .before .entry-at .ensures)
+    ∙ breaks-is rule (now (start .args .table)) (start .args .n) counts names (start .pre) p inside)
 
 returns : tie.Need-returns Inv-loop μ-loop
-returns c = stops-here _ _ _ (c .before .before .before .before .before .before .loop .inv .1) (c .before .before .before .before .before .loop-test .taken) (tested (c .before) ∙ c .if1 .taken)
+returns c =
+    let inside = c .before .before .before .before .before in
+    stops-here _ _ _ (inside .before .loop .inv .1) (inside .loop-test .taken) (tested (c .before) ∙ c .if1 .taken)
 
 loop-again : tie.Need-loop-again Inv-loop μ-loop
-loop-again c = (omega arith, below-more _ _ (c .before .before .before .before .before .before .loop .inv .1) (tested (c .before) ∙ c .if1 .left))
+loop-again c =
+    (omega arith, below-more _ _ (c .before .before .before .before .before .before .loop .inv .1) (tested (c .before) ∙ c .if1 .left))
 
 returns-2 : tie.Need-returns-2 Inv-loop μ-loop
 returns-2 c = ends-here _ _ _ (c .before .loop .inv .1) (omega arith)

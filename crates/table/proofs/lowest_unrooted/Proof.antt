@@ -27,7 +27,8 @@ returns c =
 
 loop-holds : tie.Need-loop-holds Inv-loop μ-loop
 loop-holds c =
-    let root = unrooted-root (now (c .before .before .before .args .table)) ∙ ap not (eq-eqb _ _ (sym (c .before .parent-at .ensures) ∙ c .if1 .left)) in
+    let no-parent = sym (c .before .parent-at .ensures) ∙ c .if1 .left in
+    let root = unrooted-root (now (c .before .before .before .args .table)) ∙ ap not (eq-eqb _ _ no-parent) in
     (omega arith, omega arith, λ k l. let e : k ≡ 0 = omega arith in rw e root)
 
 climbs-to-requires : tie.Need-climbs-to-requires Inv-loop μ-loop
@@ -39,16 +40,19 @@ climbs-to-requires c κs =
 -- the rule at p, as the code has it
 tested :
     (c : tie.After-climbs-to Inv-loop μ-loop)
-    → unrooted (now (c .before .before .before .before .before .before .before .args .table)) (c .before .before .before .loop .p) ≡ not (c .climbs-to .result)
+    → let turn = c .before .before .before in
+    unrooted (now (turn .before .before .before .before .args .table)) (turn .loop .p) ≡ not (c .climbs-to .result)
 tested c =
-    let table = now (c .before .before .before .before .before .before .before .args .table) in
-    let p = c .before .before .before .loop .p in
-    unrooted-next table p (c .before .before .before .loop .inv .0)
+    let turn = c .before .before .before in
+    let table = now (turn .before .before .before .before .args .table) in
+    let p = turn .loop .p in
+    unrooted-next table p (turn .loop .inv .0)
     ∙ ap not (sym (c .climbs-to .ensures ∙ ap (λ (q : ℕ). isOrIsAbove table q (p - 1) (p - 1)) (c .before .parent-at2 .ensures)))
 
 returns-2 : tie.Need-returns-2 Inv-loop μ-loop
 returns-2 c =
-    stops-here _ _ _ (c .before .before .before .before .loop .inv .2) (c .before .before .before .loop-test .taken) (tested (c .before) ∙ c .if2 .taken)
+    let inside = c .before .before .before in
+    stops-here _ _ _ (inside .before .loop .inv .2) (inside .loop-test .taken) (tested (c .before) ∙ c .if2 .taken)
 
 loop-again : tie.Need-loop-again Inv-loop μ-loop
 loop-again c =

@@ -31,8 +31,8 @@ returns-3 c =
     let t = now (start .args .table) in
     let end = c .before .end-of .ensures in
     let lowest = rw (start .pre .1) at (end .1) in
-    sym
-    (part-of t _ _ (start .pre .0) (c .before .before .before .if1 .left ∙ start .pre .1) (omega (arith, start .pre .1, c .before .before .if2 .left)) _ (end .0) lowest)
+    let whole = c .before .before .before .if1 .left ∙ start .pre .1 in
+    sym (part-of t _ _ (start .pre .0) whole (omega (arith, start .pre .1, c .before .before .if2 .left)) _ (end .0) lowest)
 
 pub part-spec : {M : Type 1} → statement M
 part-spec =

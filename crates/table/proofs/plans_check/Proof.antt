@@ -17,12 +17,18 @@ returns c =
     sym (plans-undefined t _ (found-at t _ (start .pre .whole) _ _ (c .before .lowest-breaking .ensures) (c .if1 .taken)))
 
 -- check 7 has found nothing, and then check 8
-defined : (c : tie.Else1) → least (undefinedByte (now (c .before .before .before .before .before .args .table))) (planCount (now (c .before .before .before .before .before .args .table))) ≡ Nowhere
+defined :
+    (c : tie.Else1)
+    → let t = now (c .before .before .before .before .before .args .table) in
+    least (undefinedByte t) (planCount t) ≡ Nowhere
 defined c =
     let start = c .before .before .before .before .before in
     found-none (now (start .args .table)) _ (start .pre .whole) _ _ (c .before .lowest-breaking .ensures) (c .if1 .left)
 
-fit : (c : tie.Else2) → least (unfit (now (c .before .before .before .before .before .before .before .args .table))) (planCount (now (c .before .before .before .before .before .before .before .args .table))) ≡ Nowhere
+fit :
+    (c : tie.Else2)
+    → let t = now (c .before .before .before .before .before .before .before .args .table) in
+    least (unfit t) (planCount t) ≡ Nowhere
 fit c =
     let start = c .before .before .before .before .before .before .before in
     found-none (now (start .args .table)) _ (start .pre .whole) _ _ (c .before .lowest-breaking2 .ensures) (c .if2 .left)

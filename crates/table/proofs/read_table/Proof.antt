@@ -6,10 +6,13 @@ use Rattle.table.proofs.read_table.Statement.{statement}
 use Rattle.table.proofs.read_table.Tie as tie
 
 body-check-requires : tie.Need-body-check-requires
-body-check-requires c κs = (sym (c .before .before .before .before .before .header-check .ensures) ∙ c .before .before .before .enum-told .given .1, search needs)
+body-check-requires c κs =
+    let told = c .before .before .before in
+    (sym (told .before .before .header-check .ensures) ∙ told .enum-told .given .1, search needs)
 
 returns : tie.Need-returns
-returns c = refused-checked _ _ _ _ _ (header-refused _ _ (sym (c .before .before .before .header-check .ensures) ∙ c .before .why .given .1))
+returns c =
+    refused-checked _ _ _ _ _ (header-refused _ _ (sym (c .before .before .before .header-check .ensures) ∙ c .before .why .given .1))
 
 pub read-table-spec : {M : Type 1} → statement M
 read-table-spec =

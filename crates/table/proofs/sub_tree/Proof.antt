@@ -10,7 +10,9 @@ part-requires : tie.Need-part-requires
 part-requires c κs = was-done _ _ (sym (c .before .before .before .check-table .ensures) ∙ c .before .n .given .1)
 
 returns : tie.Need-returns
-returns c = sym (none-of-refused _ _ _ _ (was-refused _ _ (sym (c .before .before .before .check-table .ensures) ∙ c .before .enum-told .given .1)))
+returns c =
+    let refused = sym (c .before .before .before .check-table .ensures) ∙ c .before .enum-told .given .1 in
+    sym (none-of-refused _ _ _ _ (was-refused _ _ refused))
 
 pub sub-tree-spec : {M : Type 1} → statement M
 sub-tree-spec =
