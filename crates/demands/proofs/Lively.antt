@@ -121,7 +121,9 @@ begun = then (then (then (then (then (then (then (then header 0 0 1 0) 0 0 2 0) 
 
 abbrev pub morning : List ℕ
 morning =
-    then (then (then (then (then (then (then (then (then begun 4 0 5 5) 0 0 4 4) 0 16 4 7) 0 0 4 1) 0 0 4 2) 0 0 4 3) 0 0 4 4) 0 32 4 6) 32 0 6 6
+    then
+    (then (then (then (then (then (then (then (then begun 4 0 5 5) 0 0 4 4) 0 16 4 7) 0 0 4 1) 0 0 4 2) 0 0 4 3) 0 0 4 4) 0 32 4 6)
+    32 0 6 6
 
 -- plan 1 after step k
 abbrev pub plan-1 : ℕ → PlanState
