@@ -13,7 +13,8 @@ returns c =
 returns-2 : tie.Need-returns-2
 returns-2 c =
     let written = c .before .before .refused-line .ensures in
-    (written .0, written .1 (c .before .before .before .before .before .before .before .before .args .n) ∙ ap (line _) (sym (c .before .before .before .before .before .verdict2 .given .1)))
+    let told = c .before .before .before .before .before in
+    (written .0, written .1 (told .before .before .before .args .n) ∙ ap (line _) (sym (told .verdict2 .given .1)))
 
 pub line-of-spec : {M : Type 1} → statement M
 line-of-spec =

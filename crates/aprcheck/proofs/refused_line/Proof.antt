@@ -9,12 +9,15 @@ use Rattle.aprcheck.proofs.refused_line.Tie as tie
 
 returns : tie.Need-returns
 returns c =
-    let start = c .before .before .before .before .before .before .before .before .before .before .before .before .before .before .before .put .ensures in
-    let number = c .before .before .before .before .before .before .before .before .before .before .put-number .ensures in
-    let step = c .before .before .before .before .before .before .put-number2 .ensures in
     let plan = c .before .before .put-number3 .ensures in
+    let step = c .before .before .before .before .before .before .put-number2 .ensures in
+    let numbered = c .before .before .before .before .before .before .before .before .before .before in
+    let number = numbered .put-number .ensures in
+    let started = numbered .before .before .before .before .before in
+    let start = started .put .ensures in
+    let place = started .before .before .before .place .ensures in
     let whole = and-then (and-then (and-then start (number .1)) (step .1)) (plan .1) in
-    (omega (arith, plan .0, step .0, number .0, start .place), λ n. whole .bytes ∙ simp (append-assoc, c .before .before .before .before .before .before .before .before .before .before .before .before .before .before .before .before .before .before .place .ensures))
+    (omega (arith, plan .0, step .0, number .0, start .place), λ n. whole .bytes ∙ simp (append-assoc, place))
 
 pub refused-line-spec : {M : Type 1} → statement M
 refused-line-spec =
