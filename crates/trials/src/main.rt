@@ -4,7 +4,8 @@
 //   move TABLE STATES WORDS           takes one step, and shows the states that it leaves
 //   rest TABLE STATES WORDS BUDGET    steps until rest, and shows the states that it leaves
 //   judge TABLE RECORD                checks a record
-// with bytes in hexadecimal (see `bytes_of`) and numbers in decimal. A line that begins with `#` is printed as it is, and an empty one as well.
+// with bytes in hexadecimal (see `bytes_of`) and numbers in decimal. A line that begins with `#` is printed as it is,
+// and an empty one as well.
 // Assumes what `io` does of read and write, and that the input is at most 65,536 bytes.
 ghost use mathlib.Core.Path.{_≡_};
 ghost use Prim.Native.Nat.{_≤_, _<_};
