@@ -24,7 +24,8 @@ use Rattle.demands.proofs.Children.{child-member, member-child}
 use Rattle.demands.proofs.States.{is-it}
 use Rattle.demands.proofs.Step.{same-state, next, state-step, next-child}
 use Rattle.demands.proofs.Orders.{Chooses, shows-chosen}
-use Rattle.demands.proofs.Choice.{isReady, ReadyChild, chosen-found, activated-agrees, witness-chooses, witness-allowed, witness-narrow}
+use Rattle.demands.proofs.Choice.{isReady, ReadyChild, chosen-found, activated-agrees}
+use Rattle.demands.proofs.Choice.{witness-chooses, witness-allowed, witness-narrow}
 use Rattle.demands.proofs.SameStep.{same-step}
 
 some-ready : (t s : List ℕ) (q p : ℕ) → SubPlan t q p → stateAt s p ≡ Ready → T (some (isReady s) (children t q))

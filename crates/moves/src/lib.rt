@@ -291,7 +291,8 @@ fn orders_for(
     requires facts { ⌜ StepFacts (now table) (now old) (now ranks) (now sets) (now picks) ⌝ }
     requires plan { ⌜ (p < planCount (now table)) × (state ≡ stateAt (now old) p) ⌝ }
     ensures { λ r. ⌜ ((w : List ℕ) → r ≡ cond (eqb p 0 || takesOrders state)
-        (ordersAt (now (table .entry)) (now (old .entry)) w (Step·chosen (now (table .entry)) (now (old .entry)) (picksOf (now (picks .entry)))) after p)
+        (ordersAt (now (table .entry)) (now (old .entry)) w
+        (Step·chosen (now (table .entry)) (now (old .entry)) (picksOf (now (picks .entry)))) after p)
         none) ⌝ }
 {
     if p == 0 {

@@ -328,7 +328,8 @@ table = marked ++ unmarked ++ ourMoves ++ ourRefusals ++ ourShows
 
 pub rowsHold : allHold table ≡ true
 unfolding
-    allHold table T1Of states leaves leastFrom highest stateAt childrenBefore children rank isOrIsAbove holds satisfiable tooManyLost childrenComplete
-    firstNotDone gateOpen mayActivate chosen orders stepFirst stepBy stepUnder step badState after leastRest badParent
-    undefinedEntry unfitEntry undefinedByte unfit badWait _andThen_ refuseIf refuseAt headerCheck tableCheck badWord callCheck tableVerdict runAnswer runStates lastDescendant subTree decimalTo
+    allHold table T1Of states leaves leastFrom highest stateAt childrenBefore children rank isOrIsAbove holds satisfiable
+    tooManyLost childrenComplete firstNotDone gateOpen mayActivate chosen orders stepFirst stepBy stepUnder step badState
+    after leastRest badParent undefinedEntry unfitEntry undefinedByte unfit badWait _andThen_ refuseIf refuseAt headerCheck
+    tableCheck badWord callCheck tableVerdict runAnswer runStates lastDescendant subTree decimalTo
 rowsHold = refl

@@ -16,15 +16,26 @@ returns c t s known own =
 -- enough are, and the others do not count
 returns-2 : tie.Need-returns-2
 returns-2 c t s known own =
-    let completed = in-one known Completed (c .before .before .before .before .in-state .ensures) in
-    rw (sym (c .before .before .before .wait-for .ensures) ∙ not-false _ (c .before .before .if1 .left), sym (c .before .waits-for-optional .ensures) ∙ not-true _ (c .if2 .taken)) at
+    let enough = c .before .before in
+    let waited = enough .before in
+    let completed = in-one known Completed (waited .before .in-state .ensures) in
+    rw (
+      sym (waited .wait-for .ensures) ∙ not-false _ (enough .if1 .left),
+      sym (c .before .waits-for-optional .ensures) ∙ not-true _ (c .if2 .taken),
+    ) at
     (complete-is own completed refl)
 
 -- enough are, and all must be ended
 returns-3 : tie.Need-returns-3
 returns-3 c t s known own =
-    let completed = in-one known Completed (c .before .before .before .before .before .in-state .ensures) in
-    rw (sym (c .before .before .before .before .wait-for .ensures) ∙ not-false _ (c .before .before .before .if1 .left), sym (c .before .before .waits-for-optional .ensures) ∙ not-false _ (c .before .if2 .left)) at
+    let optional = c .before .before in
+    let enough = optional .before in
+    let waited = enough .before in
+    let completed = in-one known Completed (waited .before .in-state .ensures) in
+    rw (
+      sym (waited .wait-for .ensures) ∙ not-false _ (enough .if1 .left),
+      sym (optional .waits-for-optional .ensures) ∙ not-false _ (c .before .if2 .left),
+    ) at
     (complete-is own completed (c .all-ended .ensures t s known))
 
 pub children-complete-spec : {M : Type 1} → statement M

@@ -9,7 +9,8 @@ returns : tie.Need-returns
 returns c t s known own = rw (not-true (c .before .before .args .executing) (c .if1 .taken)) refl
 
 returns-2 : tie.Need-returns-2
-returns-2 c t s known own = rw (not-false (c .before .before .before .args .executing) (c .before .if1 .left)) (c .too-many-lost .ensures t s known own)
+returns-2 c t s known own =
+    rw (not-false (c .before .before .before .args .executing) (c .before .if1 .left)) (c .too-many-lost .ensures t s known own)
 
 pub lost-if-spec : {M : Type 1} → statement M
 lost-if-spec = tie.close (tie.spec returns (λ c κs. search needs) returns-2)

@@ -11,10 +11,13 @@ check-record-requires : tie.Need-check-record-requires
 check-record-requires c κs =
     let read = c .before .before .before .before .before .before .before .read-table .ensures in
     let told = c .before .before .enum-told .given .1 in
-    prepared _ _ _ _ (sym (read .is) ∙ told) (read .facts told) (omega (arith, read .facts told .small)) (omega (arith, read .facts told .small))
+    let facts = read .facts told in
+    prepared _ _ _ _ (sym (read .is) ∙ told) facts (omega (arith, facts .small)) (omega (arith, facts .small))
 
 returns : tie.Need-returns
-returns c = table-refused _ _ _ (sym (c .before .before .before .before .before .before .read-table .ensures .is) ∙ c .before .why .given .1)
+returns c =
+    let read = c .before .before .before .before .before .before .read-table .ensures in
+    table-refused _ _ _ (sym (read .is) ∙ c .before .why .given .1)
 
 pub check-spec : {M : Type 1} → statement M
 check-spec =

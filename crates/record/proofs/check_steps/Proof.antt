@@ -75,6 +75,11 @@ abbrev μ-search : tie.MeasureT-search
 μ-search table n ranks names «record» steps idle sets₀ picks₀ kept₀ new₀ bad-step₀ bad-plan₀ i₀ sets picks kept new bad-step bad-plan i =
     steps - i
 
+array-share-prefix-idle : tie.Need-array-share-prefix-idle Inv-loop μ-loop Inv-search μ-search
+array-share-prefix-idle c =
+    let pre = c .before .before .before .before .pre in
+    idle-few (pre .0) (pre .1 .0)
+
 survey-requires : tie.Need-survey-requires Inv-loop μ-loop Inv-search μ-search
 survey-requires c κs =
     let pre = c .before .before .before .before .before .before .pre in
@@ -132,19 +137,25 @@ search-of c = c .before .before .before .before .before
 abbrev table-of : tie.After-states-of Inv-loop μ-loop Inv-search μ-search → List ℕ
 table-of c = now (start-of (search-of c) .args .table)
 
+abbrev record-of : tie.After-states-of Inv-loop μ-loop Inv-search μ-search → List ℕ
+record-of c = now (start-of (search-of c) .args .«record»)
+
+abbrev step-of : tie.After-states-of Inv-loop μ-loop Inv-search μ-search → ℕ
+step-of c = search-of c .before .search .i
+
 is-words :
     (c : tie.After-states-of Inv-loop μ-loop Inv-search μ-search)
-    → now (c .before .before .before .before .words-of .result) ≡ wordsOf (table-of c) (now (start-of (search-of c) .args .«record»)) (search-of c .before .search .i)
+    → now (c .before .before .before .before .words-of .result) ≡ wordsOf (table-of c) (record-of c) (step-of c)
 is-words c = c .before .before .before .before .words-of .ensures (table-of c) (here (search-of c) .whole)
 
 is-old :
     (c : tie.After-states-of Inv-loop μ-loop Inv-search μ-search)
-    → now (c .before .states-before .result) ≡ statesBefore (table-of c) (now (start-of (search-of c) .args .«record»)) (search-of c .before .search .i)
+    → now (c .before .states-before .result) ≡ statesBefore (table-of c) (record-of c) (step-of c)
 is-old c = c .before .states-before .ensures (table-of c) (here (search-of c) .whole)
 
 is-shown :
     (c : tie.After-states-of Inv-loop μ-loop Inv-search μ-search)
-    → now (c .states-of .result) ≡ statesOf (table-of c) (now (start-of (search-of c) .args .«record»)) (search-of c .before .search .i)
+    → now (c .states-of .result) ≡ statesOf (table-of c) (record-of c) (step-of c)
 is-shown c = c .states-of .ensures (table-of c) (here (search-of c) .whole)
 
 -- its plans may move, and the words that are kept are those of the states before it
@@ -186,6 +197,17 @@ found-of c = c .before .before .before .before .before .before
 abbrev parts-of : tie.After-advance Inv-loop μ-loop Inv-search μ-search → tie.After-states-of Inv-loop μ-loop Inv-search μ-search
 parts-of c = found-of c .before .before .before
 
+slice-aggregate-advance-2 : tie.Need-slice-aggregate-advance-2 Inv-loop μ-loop Inv-search μ-search
+slice-aggregate-advance-2 c =
+    let found = c .before .before .before .before in
+    let inv = search-of (found .before .before .before) .before .search .inv in
+    omega (arith, inv .picks-long, c .before .before .before .picks2 .given)
+
+slice-aggregate-advance-3 : tie.Need-slice-aggregate-advance-3 Inv-loop μ-loop Inv-search μ-search
+slice-aggregate-advance-3 c =
+    let found = c .before .before .before .before .before in
+    sym (search-of (found .before .before .before) .before .search .inv .new-long)
+
 advance-requires : tie.Need-advance-requires Inv-loop μ-loop Inv-search μ-search
 advance-requires c κs =
     let found = c .before .before .before .before .before in
@@ -207,8 +229,8 @@ advanced-of c = c .before .before .before
 
 compared :
     (c : tie.In-loop Inv-loop μ-loop Inv-search μ-search)
-    → Going (parts-of (advanced-of c) .before .before .before .lowest-wrong-word .result) (start-of (search-of (parts-of (advanced-of c))) .args .n)
-    (c .before .loop .p)
+    → let parts = parts-of (advanced-of c) in
+    Going (parts .before .before .before .lowest-wrong-word .result) (start-of (search-of parts) .args .n) (c .before .loop .p)
 compared c = going _ _ _ (c .loop-test .taken)
 
 shared-slice-read-if1 : tie.Need-shared-slice-read-if1 Inv-loop μ-loop Inv-search μ-search
@@ -238,8 +260,9 @@ passed c =
     let parts = parts-of advanced in
     let at = here (search-of parts) in
     let inv = c .before .before .loop .inv in
-    let lowest = parts .before .before .before .lowest-wrong-word .ensures in
-    let right : parts .before .before .before .lowest-wrong-word .result ≡ start-of (search-of parts) .args .n = omega (arith, lowest .within, c .if2 .left) in
+    let looked = parts .before .before .before in
+    let lowest = looked .lowest-wrong-word .ensures in
+    let right : looked .lowest-wrong-word .result ≡ start-of (search-of parts) .args .n = omega (arith, lowest .within, c .if2 .left) in
     one-more at _ (omega (arith, inv .0, gone _ _ _ right (c .before .loop-test .left)))
     (words-pass at _ (is-words parts) _ lowest (c .if2 .left))
     (explained at _ _ _ _ _ (is-old parts) (is-words parts) (is-shown parts) (found-of advanced .find-picks .ensures)
@@ -267,8 +290,8 @@ search-again c =
       within = omega (arith, at .inside);
       none-bad = c .before .before .before .before .before .loop .inv .1;
       sets-long = resurvey .1 .long ∙ inv .sets-long;
-      picks-long = omega (arith, inv .picks-long, c .before .before .before .before .before .before .before .before .before .before .before .before .picks2 .given);
-      kept-long = omega (arith, inv .kept-long, c .before .before .before .before .before .before .before .before .before .before .before .kept2 .given);
+      picks-long = omega (arith, inv .picks-long, advanced .before .before .before .before .before .picks2 .given);
+      kept-long = omega (arith, inv .kept-long, advanced .before .before .before .before .kept2 .given);
       new-long = advanced .advance .ensures .1 .long ∙ inv .new-long;
       pass = passed (c .before .before .before);
       surveyed = next-surveyed at _ _ (is-shown parts) (resurvey .0);
@@ -285,7 +308,8 @@ first-of c = c .before .before .before .before .before .before .before .before .
 
 stopped :
     (c : tie.Left-search Inv-loop μ-loop Inv-search μ-search) → (c .search-test .bad-step ≡ 0 → ⊥)
-    → Stopped (now (first-of (c .before) .args .table)) (now (first-of (c .before) .args .«record»)) (c .search-test .bad-step) (c .search-test .bad-plan)
+    → Stopped (now (first-of (c .before) .args .table)) (now (first-of (c .before) .args .«record»)) (c .search-test .bad-step)
+    (c .search-test .bad-plan)
 stopped c found =
     let t = now (first-of (c .before) .args .table) in
     ⊎-elim
@@ -335,8 +359,8 @@ check-steps-spec =
     μ-loop
     Inv-search
     μ-search
-    (λ c. idle-few (c .before .before .before .before .pre .0) (c .before .before .before .before .pre .1 .0))
-    (λ c. sym (length-take-le _ (replicate 256 0) (idle-few (c .before .before .before .before .before .pre .0) (c .before .before .before .before .before .pre .1 .0))))
+    array-share-prefix-idle
+    (λ c. sym (length-take-le _ (replicate 256 0) (array-share-prefix-idle (c .before))))
     (λ c. refl)
     survey-requires
     search-holds
@@ -349,10 +373,10 @@ check-steps-spec =
     (λ c. sym (c .before .before .before .before .before .before .before .before .search .inv .kept-long))
     find-picks-requires
     (λ c. sym (c .before .before .before .before .before .before .before .before .before .before .before .before .search .inv .sets-long))
-    (λ c. omega (arith, c .before .before .before .before .before .before .before .before .before .before .before .before .before .search .inv .picks-long, c .before .before .before .picks2 .given))
-    (λ c. sym (c .before .before .before .before .before .before .before .before .before .before .before .before .before .before .search .inv .new-long))
+    slice-aggregate-advance-2
+    slice-aggregate-advance-3
     advance-requires
-    (λ c. (omega arith, c .before .before .before .before .before .before .before .before .before .before .before .before .before .before .before .before .search .inv .none-bad, below-none _))
+    (λ c. (omega arith, search-of (parts-of (c .before)) .before .search .inv .none-bad, below-none _))
     (λ c. omega (arith, compared c .inside, few-plans (here (search-of (parts-of (advanced-of c))))))
     shared-slice-read-if1
     (λ c. omega (arith, step-fits (here (search-of (parts-of (advanced-of (c .before .before)))))))

@@ -109,13 +109,25 @@ place c =
       omega (arith, above c, room turn .1, turn .loop-test .taken, length-set (at .kept) (at .p) 0),
     )
 
+shared-slice-read-picks : tie.Need-shared-slice-read-picks Inv-loop μ-loop
+shared-slice-read-picks c =
+    let turn = c .before .before .before .before .before .before .before .before .before in
+    omega (arith, start-of turn .pre .0 .ranks-room, turn .loop-test .taken)
+
+shared-slice-read-kept : tie.Need-shared-slice-read-kept Inv-loop μ-loop
+shared-slice-read-kept c =
+    let turn = c .before .before .before .before .before .before .before .before .before .before in
+    omega (arith, start-of turn .pre .1 .0 .1, turn .loop-test .taken)
+
 entry-at-requires : tie.Need-entry-at-requires Inv-loop μ-loop
 entry-at-requires c κs =
     let turn = c .before .before .before in
     omega (arith, above c, start-of turn .pre .0 .rooted .room, turn .loop-test .taken)
 
 returns : tie.Need-returns Inv-loop μ-loop
-returns c = all-found _ _ _ _ _ _ _ _ _ (c .before .before .before .before .before .before .before .before .pre .0 .whole) (c .loop-test .left) (c .before .loop .inv)
+returns c =
+    let start = c .before .before .before .before .before .before .before .before in
+    all-found _ _ _ _ _ _ _ _ _ (start .pre .0 .whole) (c .loop-test .left) (c .before .loop .inv)
 
 pub find-picks-spec : {M : Type 1} → statement M
 find-picks-spec =
@@ -140,9 +152,9 @@ find-picks-spec =
     (λ c. omega arith)
     (λ c. omega arith)
     (λ c. turn-at (c .before .before) _ refl .keeps (c .if2 .taken))
-    (λ c. omega (arith, start-of (c .before .before .before .before .before .before .before .before .before) .pre .0 .ranks-room, c .before .before .before .before .before .before .before .before .before .loop-test .taken))
+    shared-slice-read-picks
     (λ c. place (c .before .before .before .before .before .before) .0)
-    (λ c. omega (arith, start-of (c .before .before .before .before .before .before .before .before .before .before) .pre .1 .0 .1, c .before .before .before .before .before .before .before .before .before .before .loop-test .taken))
+    shared-slice-read-kept
     (λ c. place (c .before .before .before .before .before .before .before) .1)
     (λ c. omega arith)
     (λ c. omega arith)

@@ -10,7 +10,10 @@ returns c t whole = short-header t (now (c .before .before .args .«record»)) (
 
 returns-2 : tie.Need-returns-2
 returns-2 c t whole =
-    long-header t (now (c .before .before .before .before .before .before .args .«record»)) _ _ _ _ whole (c .before .before .before .before .if1 .left) (c .before .has-mark .ensures) (c .before .before .before .u16-at .ensures) (c .before .before .u16-at2 .ensures)
+    let long = c .before .before .before .before in
+    long-header t (now (long .before .before .args .«record»)) _ _ _ _ whole (long .if1 .left) (c .before .has-mark .ensures)
+    (c .before .before .before .u16-at .ensures)
+    (c .before .before .u16-at2 .ensures)
 
 pub wrong-header-spec : {M : Type 1} → statement M
 wrong-header-spec =
