@@ -7,8 +7,8 @@ ghost use lib.ListN.{length};
 ghost use Rattle.children.specs.Sets.{Rooted, Beyond, Empty, Codes, Ranked, Narrow, Collected, Surveyed};
 ghost use Rattle.rules.specs.Bytes.{byteAt};
 ghost use Rattle.rules.specs.Table.{entry, named};
-use rules::entry_at;
-use rules::parent_at;
+use reading::entry_at;
+use reading::parent_at;
 
 // Each plan's rank among its siblings and number of children.
 pub fn rank_children(table: &[u8], n: usize, ranks: &mut [u8], counts: &mut [u8])

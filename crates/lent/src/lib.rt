@@ -10,16 +10,16 @@ ghost use Rattle.rules.specs.Answers.{wrongWordIf, wrongWord, badWord, lentChec
 ghost use Rattle.table.specs.Lowest.{Lowest};
 ghost use Rattle.lent.specs.BodyRule.{breaksBy};
 ghost use Rattle.lent.specs.Calls.{Planned, Counted, Tabled, FactsRoom, Called};
+use reading::entry_at;
+use reading::parent_at;
+use reading::u16_at;
+use reading::word_at;
 use rules::Body;
 use rules::Outcome;
 use rules::PlanEntry;
 use rules::PlanState;
 use rules::Refusal;
-use rules::entry_at;
-use rules::parent_at;
 use rules::pick_of;
-use rules::u16_at;
-use rules::word_at;
 use table::read_table;
 
 // Checks 1 to 12 of a call. Where they pass, the buffers hold the table's facts.
@@ -111,16 +111,19 @@ fn lowest_bad_state(table: &[u8], n: usize, states: &[u8]) -> usize
 fn child_suits(parent: PlanState, child: PlanState) -> bool
     ensures { λ r. ⌜ r ≡ suits parent child ⌝ }
 {
+    let idle = child.is(PlanState::Inactive);
+    let active = child.is(PlanState::Activated);
+    let over = child.is_ended();
     match parent {
-        PlanState::Inactive => child.is(PlanState::Inactive),
-        PlanState::Considered => child.is(PlanState::Inactive),
-        PlanState::Possible => child.is(PlanState::Inactive),
-        PlanState::Ready => child.is(PlanState::Inactive),
+        PlanState::Inactive => idle,
+        PlanState::Considered => idle,
+        PlanState::Possible => idle,
+        PlanState::Ready => idle,
         PlanState::Activated => true,
-        PlanState::Suspended => !child.is(PlanState::Activated),
-        PlanState::Completed => child.is(PlanState::Inactive) | child.is_ended(),
-        PlanState::Aborted => child.is(PlanState::Inactive) | child.is_ended(),
-        PlanState::Rejected => child.is(PlanState::Inactive),
+        PlanState::Suspended => !active,
+        PlanState::Completed => idle | over,
+        PlanState::Aborted => idle | over,
+        PlanState::Rejected => idle,
     }
 }
 
@@ -141,9 +144,8 @@ fn breaks_by(body: Body, child: PlanState, running: bool, undone: bool) -> bool
 fn is_done(again: bool, state: PlanState) -> bool
     ensures { λ r. ⌜ r ≡ done again state ⌝ }
 {
-    state.is(PlanState::Completed)
-        | state.is(PlanState::Rejected)
-        | (state.is(PlanState::Aborted) & !again)
+    let b = state.to_byte();
+    (b == PlanState::COMPLETED) | (b == PlanState::REJECTED) | ((b == PlanState::ABORTED) & !again)
 }
 
 // 1 where a test has held, once it has.

@@ -15,14 +15,14 @@ ghost use Rattle.moves.specs.Tells.{TellsFirstNotDone, TellsGate, TellsM
 ghost use Rattle.moves.specs.Tells.{TellsOrdersIf, TellsAllEnded, TellsLost, TellsComplete, TellsLostIf, TellsCompleteIf, TellsMove};
 ghost use Rattle.moves.specs.Parents.{parentState, ordersAt, takesOrders, byParent};
 ghost use Rattle.moves.specs.StepFacts.{picksOf, StepFacts, Names};
+use reading::entry_at;
+use reading::parent_at;
+use reading::word_at;
 use rules::Body;
 use rules::Condition;
 use rules::Orders;
 use rules::PlanEntry;
 use rules::PlanState;
-use rules::entry_at;
-use rules::parent_at;
-use rules::word_at;
 
 // The new state of plan p in a step from `old`, where `new` has the new states of the plans before it. `sets` has the words of the old
 // states, `picks` the rank that each any-order plan picks. Plans move in table order, so a parent has moved before its children.
@@ -81,7 +81,8 @@ fn by_parent(after: PlanState, old: PlanState) -> ByParent
     if after.is(PlanState::Inactive) | after.in_selection() {
         return ByParent::Settled(PlanState::Inactive);
     }
-    if after.is_ended() | old.is(PlanState::Completed) | old.is(PlanState::Rejected) {
+    let b = old.to_byte();
+    if after.is_ended() | ((b == PlanState::COMPLETED) | (b == PlanState::REJECTED)) {
         return ByParent::Settled(cut_off(old));
     }
     ByParent::Open
@@ -273,7 +274,8 @@ fn all_ended(sets: &[u64], p: usize) -> bool
 fn takes_orders(state: PlanState) -> bool
     ensures { λ r. ⌜ r ≡ takesOrders state ⌝ }
 {
-    state.is(PlanState::Inactive) | state.is(PlanState::Ready) | state.is(PlanState::Aborted)
+    let b = state.to_byte();
+    (b == PlanState::INACTIVE) | (b == PlanState::READY) | (b == PlanState::ABORTED)
 }
 
 // What plan p in a state is ordered to do, given its parent's new state: the root as by a parent that stays Activated. One whose state

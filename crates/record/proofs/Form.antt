@@ -19,8 +19,8 @@ use Rattle.rules.specs.declared.Outcome.the-variants.{Done, Refused}
 use Rattle.rules.specs.declared.Verdict.the-variants as verdict
 use Rattle.rules.proofs.Outcomes.{first-done, then-done, if-done, pass, stop, pass-last, stop-last, then-next, then-stops}
 use Rattle.rules.proofs.Tree.{or-left, or-right}
-use Rattle.record.specs.Steps.{Lies}
-use Rattle.record.proofs.Parts.{room}
+use Rattle.parts.specs.OneStep.{Lies}
+use Rattle.parts.proofs.Parts.{room}
 
 -- check 13, as the code finds it
 pub short-header : (t r : List ℕ) → length r < 8 → true ≡ wrongHeader t r

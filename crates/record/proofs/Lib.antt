@@ -1,6 +1,4 @@
--- Laws for the proofs of this crate and of those above it.
-pub mod Parts
+-- Laws for the proofs of this crate.
 pub mod Form
-pub mod Picks
 pub mod Steps
 pub mod Unique

@@ -34,7 +34,8 @@ use Rattle.demands.proofs.Numbers.{last-or}
 use Rattle.demands.proofs.Witness.{witness-small}
 use Rattle.demands.proofs.PlanByPlan.{explained-fewer, same-picks, explained-so-far}
 use Rattle.demands.proofs.PlanByPlan.{unexplained as no-picks}
-use Rattle.record.specs.Steps.{Lies, Witnessed, Sound}
+use Rattle.parts.specs.OneStep.{Lies, Witnessed}
+use Rattle.record.specs.Sound.{Sound}
 use Rattle.record.proofs.Form.{few, lies}
 
 -- the first k bytes of a buffer of zeros

@@ -3,13 +3,13 @@ use Prim.Native.Nat.{ℕ, zero, suc, _<_}
 use native.Mathlib.Decide.{decLt}
 use native.Mathlib.Omega.{arith}
 use mathlib.Core.Path.{_≡_, refl, sym, ap, _∙_}
-use mathlib.Core.Bool.{Bool, true, false, _||_, or-false}
-use mathlib.Core.List.{List, [], _∷_}
-use lib.Dec.{eqb}
+use mathlib.Core.Bool.{false, _&&_, or-false}
+use mathlib.Core.List.{List}
+use lib.Dec.{eqb, leb}
 use lib.ListN.{List·getD-eq-default}
 use borrow.Author.Tests.{ne-eqb}
 use Rattle.rules.specs.Bytes.{byteAt}
-use Rattle.rules.specs.States.{code, byCode, stateOf, stateAt, oneOf, is}
+use Rattle.rules.specs.States.{code, byCode, stateOf, stateAt, is, inSelection, inExecution}
 use Rattle.rules.specs.declared.PlanState.{PlanState}
 use Rattle.rules.specs.declared.PlanState.the-variants.{
   Inactive,
@@ -27,21 +27,28 @@ pub state-is : (s : List ℕ) (p : ℕ) → stateAt s p ≡ stateOf (byteAt s p)
 unfolding stateAt
 state-is s p = refl
 
--- a state is tested for two and for three others in turn, as the code does it
-pub one-of-two : (x y state : PlanState) → (is x state || is y state) ≡ oneOf (x ∷ y ∷ []) state
-one-of-two x y state = go (eqb (code state) (code x)) (eqb (code state) (code y))
-  where
-    go : (a b : Bool) → ((a || false) || (b || false)) ≡ (a || (b || false))
-    go true b = refl
-    go false b = refl
+-- the groups, by the first and the last code of each
+pub selection-test : (state : PlanState) → (leb (code Considered) (code state) && leb (code state) (code Ready)) ≡ inSelection state
+selection-test Inactive = refl
+selection-test Considered = refl
+selection-test Possible = refl
+selection-test Ready = refl
+selection-test Activated = refl
+selection-test Suspended = refl
+selection-test Completed = refl
+selection-test Aborted = refl
+selection-test Rejected = refl
 
-pub one-of-three : (x y z state : PlanState) → ((is x state || is y state) || is z state) ≡ oneOf (x ∷ y ∷ z ∷ []) state
-one-of-three x y z state = go (eqb (code state) (code x)) (eqb (code state) (code y)) (eqb (code state) (code z))
-  where
-    go : (a b c : Bool) → (((a || false) || (b || false)) || (c || false)) ≡ (a || (b || (c || false)))
-    go true b c = refl
-    go false true c = refl
-    go false false c = refl
+pub execution-test : (state : PlanState) → (leb (code Activated) (code state) && leb (code state) (code Suspended)) ≡ inExecution state
+execution-test Inactive = refl
+execution-test Considered = refl
+execution-test Possible = refl
+execution-test Ready = refl
+execution-test Activated = refl
+execution-test Suspended = refl
+execution-test Completed = refl
+execution-test Aborted = refl
+execution-test Rejected = refl
 
 -- there are nine codes
 pub code-lt : (state : PlanState) → code state < 9

@@ -20,11 +20,7 @@ use Rattle.rules.proofs.PlanEntry.waits_for_optional.Reads as waits-for
 use Rattle.rules.proofs.PlanEntry.is_named.Reads as is-named
 use Rattle.rules.proofs.PlanEntry.wait_for.Reads as wait-for
 use Rattle.rules.proofs.Refusal.place.Reads as placed
-use Rattle.rules.proofs.entry_at.Reads as entry-at
-use Rattle.rules.proofs.parent_at.Reads as parent-at
-use Rattle.rules.proofs.word_at.Reads as word-at
 use Rattle.rules.proofs.pick_of.Reads as pick-of
-use Rattle.rules.proofs.u16_at.Reads as u16-at
 
 -- two answers that equal one thing are equal
 pub one-answer {ℓ} : {A : Type ℓ} {definition r r′ : A} → r ≡ definition → r′ ≡ definition → r ≡ r′
@@ -88,17 +84,5 @@ wait-for-once κs a z z′ e e′ h h′ = one-answer h h′
 pub place-once : OneAnswer placed.Post
 place-once κs a z z′ e e′ h h′ = one-answer h h′
 
-pub entry-at-once : OneAnswer entry-at.Post
-entry-at-once κs a z z′ e e′ h h′ = one-answer h h′
-
-pub parent-at-once : OneAnswer parent-at.Post
-parent-at-once κs a z z′ e e′ h h′ = one-answer h h′
-
-pub word-at-once : OneAnswer word-at.Post
-word-at-once κs a z z′ e e′ h h′ = one-answer h h′
-
 pub pick-of-once : OneAnswer pick-of.Post
 pick-of-once κs a z z′ e e′ h h′ = one-answer (h .0) (h′ .0)
-
-pub u16-at-once : OneAnswer u16-at.Post
-u16-at-once κs a z z′ e e′ h h′ = one-answer h h′

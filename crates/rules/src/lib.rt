@@ -1,14 +1,13 @@
 // What a plan, its table entry and its input word are, and what every call answers: the words of document 01.
 // The rules themselves are the definitions of specs/; each function here meets one of them. Assumes nothing.
 ghost use mathlib.Core.Path.{_≡_};
-ghost use Prim.Native.Nat.{_+_, _*_, _<_, _≤_};
+ghost use Prim.Native.Nat.{_<_};
 ghost use lib.Count.{ones};
-ghost use lib.ListN.{length};
-ghost use Rattle.rules.specs.Bytes.{isSet, u16At, u32At};
+ghost use Rattle.rules.specs.Bytes.{isSet};
 ghost use Rattle.rules.specs.States.{code, stateOf, is, inSelection, inExecution, ended};
-ghost use Rattle.rules.specs.Table.{bodyOf, isLeaf, isAnyOrder, retryAborted, waitForOptional, named, bitOf, entry, parent, enough};
+ghost use Rattle.rules.specs.Table.{bodyOf, isLeaf, isAnyOrder, retryAborted, waitForOptional, named, bitOf, enough};
 ghost use Rattle.rules.specs.Answers.{placed, place};
-ghost use Rattle.rules.specs.Words.{word, pickOf, holds, satisfiable};
+ghost use Rattle.rules.specs.Words.{pickOf, holds, satisfiable};
 
 // The state of a plan.
 pub enum PlanState {
@@ -88,14 +87,16 @@ impl PlanState {
     pub fn in_selection(self) -> bool
         ensures { λ r. ⌜ r ≡ inSelection self ⌝ }
     {
-        self.is(PlanState::Considered) | self.is(PlanState::Possible) | self.is(PlanState::Ready)
+        let b = self.to_byte();
+        (PlanState::CONSIDERED <= b) & (b <= PlanState::READY)
     }
 
     // Whether the plan is in execution.
     pub fn in_execution(self) -> bool
         ensures { λ r. ⌜ r ≡ inExecution self ⌝ }
     {
-        self.is(PlanState::Activated) | self.is(PlanState::Suspended)
+        let b = self.to_byte();
+        (PlanState::ACTIVATED <= b) & (b <= PlanState::SUSPENDED)
     }
 
     // Whether the plan has ended.
@@ -363,66 +364,10 @@ pub enum Rest {
     Refused(Refusal),
 }
 
-// The entry of plan p in a table that has one.
-pub fn entry_at(table: &[u8], p: usize) -> PlanEntry
-    requires { ⌜ 8 * p + 16 ≤ length (now table) ⌝ }
-    ensures { λ r. ⌜ r ≡ entry (now (table .entry)) p ⌝ }
-{
-    let at = 8 + 8 * p;
-    PlanEntry {
-        parent: u16_at(table, at),
-        body: table[at + 2],
-        flags: table[at + 3],
-        present: table[at + 4],
-        manual: table[at + 5],
-        overridable: table[at + 6],
-        wait: table[at + 7],
-    }
-}
-
-// The number of plan p's parent, in a table that has plan p.
-pub fn parent_at(table: &[u8], p: usize) -> usize
-    requires { ⌜ 8 * p + 16 ≤ length (now table) ⌝ }
-    ensures { λ r. ⌜ r ≡ parent (now (table .entry)) p ⌝ }
-{
-    u16_at(table, 8 + 8 * p) as usize
-}
-
-// The input word of plan p among words that have one.
-pub fn word_at(words: &[u8], p: usize) -> u32
-    requires { ⌜ 4 * p + 4 ≤ length (now words) ⌝ }
-    ensures { λ r. ⌜ r ≡ word (now (words .entry)) p ⌝ }
-{
-    u32_at(words, 4 * p)
-}
-
 // The pick of an input word.
 pub fn pick_of(x: u32) -> u32
     ensures is { λ r. ⌜ r ≡ pickOf x ⌝ }
     ensures small { λ r. ⌜ r < 64 ⌝ }
 {
     (x >> 24) % 64
-}
-
-// The 16-bit number at a place of a slice.
-pub fn u16_at(s: &[u8], i: usize) -> u16
-    requires { ⌜ i + 2 ≤ length (now s) ⌝ }
-    ensures { λ r. ⌜ r ≡ u16At (now (s .entry)) i ⌝ }
-{
-    wide(s[i]) + 256 * wide(s[i + 1])
-}
-
-// The 32-bit number at a place of a slice.
-fn u32_at(s: &[u8], i: usize) -> u32
-    requires { ⌜ i + 4 ≤ length (now s) ⌝ }
-    ensures { λ r. ⌜ r ≡ u32At (now (s .entry)) i ⌝ }
-{
-    u16_at(s, i) as u32 + 65536 * (u16_at(s, i + 2) as u32)
-}
-
-// A byte as a wider number: named, so that a reader of it has its bound.
-fn wide(x: u8) -> u16
-    ensures { λ r. ⌜ (r ≡ x) × (r < 256) ⌝ }
-{
-    x as u16
 }

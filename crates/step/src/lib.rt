@@ -16,10 +16,10 @@ use children::resurvey;
 use children::survey;
 use lent::check_call;
 use moves::next_state;
+use reading::word_at;
 use rules::Outcome;
 use rules::Rest;
 use rules::pick_of;
-use rules::word_at;
 
 // One synchronous step over the states, or a refusal that changes none of them. Its work space is cleared in each call: a small tree
 // does not pay for a large one.

@@ -3,8 +3,9 @@ use Prim.Native.Nat.{ℕ, zero, suc, _-_, _≤_, _<_}
 use native.Mathlib.Omega.{arith}
 use native.Mathlib.Nat.{sub-zero}
 use native.Mathlib.Numerals.{add-one}
-use mathlib.Core.Path.{_≡_, refl, _∙_, ap}
-use mathlib.Core.Bool.{Bool, true, false}
+use native.Mathlib.Decide.{decLt}
+use mathlib.Core.Path.{_≡_, refl, sym, _∙_, ap}
+use mathlib.Core.Bool.{Bool, true, false, true≢false}
 use Rattle.rules.specs.Lists.{leastFrom, least, Nowhere, At}
 use Rattle.rules.proofs.Least.{least-here, least-more, least-end}
 use Rattle.table.specs.Lowest.{Lowest}
@@ -31,3 +32,15 @@ module _ (f : ℕ → Bool) (n p : ℕ) (before : (k : ℕ) → k < p → f k �
 
   pub ends-here : p ≡ n → Lowest f n p
   ends-here e = record { within = omega arith; before = before; found = λ l. absurd (omega arith) }
+
+-- there is one answer to a search
+pub lowest-once : (f : ℕ → Bool) (n r r′ : ℕ) → Lowest f n r → Lowest f n r′ → r ≡ r′
+lowest-once f n r r′ a b = go (decLt r r′) (decLt r′ r)
+  where
+    not-before : (x y : ℕ) → Lowest f n x → Lowest f n y → x < y → ⊥
+    not-before x y at-x at-y l = true≢false (sym (at-x .found (omega (arith, at-y .within))) ∙ at-y .before x l)
+
+    go : Dec (r < r′) → Dec (r′ < r) → r ≡ r′
+    go (yes l) m = absurd (not-before r r′ a b l)
+    go (no l) (yes m) = absurd (not-before r′ r b a m)
+    go (no l) (no m) = omega arith

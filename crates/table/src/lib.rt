@@ -15,13 +15,13 @@ ghost use Rattle.table.specs.Lowest.{Lowest};
 ghost use Rattle.table.specs.Facts.{Shaped, breaksEntry, breaking, Known, RoomFor, Checked, outside};
 use children::collect_named;
 use children::rank_children;
+use reading::entry_at;
+use reading::parent_at;
+use reading::u16_at;
 use rules::Outcome;
 use rules::PlanEntry;
 use rules::Refusal;
 use rules::Verdict;
-use rules::entry_at;
-use rules::parent_at;
-use rules::u16_at;
 
 // Whether a slice begins with `AP` and a third letter, the mark of a table or a record.
 pub fn has_mark(s: &[u8], letter: u8) -> bool

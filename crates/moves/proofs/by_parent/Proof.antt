@@ -1,11 +1,11 @@
 -- `by_parent` meets its contract: its three cases. Assumes nothing.
 use mathlib.Core.Path.{_≡_, refl, sym, ap, ap₂, _∙_}
-use mathlib.Core.Bool.{Bool, _||_, or-assoc}
+use mathlib.Core.Bool.{Bool, _||_, or-false}
 use mathlib.Core.List.{[], _∷_}
 use borrow.Author.Needs.{needs}
-use Rattle.rules.specs.States.{oneOf, is, inSelection, ended}
+use lib.Dec.{eqb}
+use Rattle.rules.specs.States.{code, oneOf, is, inSelection, ended}
 use Rattle.rules.specs.declared.PlanState.the-variants.{Inactive, Completed, Rejected}
-use Rattle.rules.proofs.Codes.{one-of-two}
 use Rattle.moves.specs.declared.ByParent.the-variants.{Settled}
 use Rattle.moves.specs.Parents.{byParent}
 use Rattle.moves.proofs.by_parent.Statement.{statement}
@@ -19,16 +19,12 @@ not-begun :
 not-begun c = sym (ap₂ (λ (a b : Bool). a || b) (c .before .is .ensures) (c .in-selection .ensures))
 
 keeps :
-    (c : tie.After-is3)
-    → (ended (c .before .before .before .before .before .before .args .after)
-    || oneOf (Completed ∷ Rejected ∷ []) (c .before .before .before .before .before .before .args .old))
-    ≡ ((c .before .before .is-ended .result || c .before .is2 .result) || c .is3 .result)
-keeps c =
-    let old = c .before .before .before .before .before .before .args .old in
-    ap₂ (λ (a b : Bool). a || b) (sym (c .before .before .is-ended .ensures))
-    (sym (one-of-two Completed Rejected old)
-    ∙ sym (ap₂ (λ (a b : Bool). a || b) (c .before .is2 .ensures) (c .is3 .ensures)))
-    ∙ sym (or-assoc (c .before .before .is-ended .result) (c .before .is2 .result) (c .is3 .result))
+    (c : tie.After-is-ended)
+    → (ended (c .before .before .before .before .before .args .after)
+    || oneOf (Completed ∷ Rejected ∷ []) (c .before .before .before .before .before .args .old))
+    ≡ (c .is-ended .result
+    || (eqb (c .before .to-byte .result) (code Completed) || eqb (c .before .to-byte .result) (code Rejected)))
+keeps c = simp (c .is-ended .ensures, c .before .to-byte .ensures, or-false)
 
 returns : tie.Need-returns
 unfolding byParent
@@ -38,7 +34,7 @@ returns-2 : tie.Need-returns-2
 unfolding byParent
 returns-2 c =
     rw (
-      not-begun (c .before .before .before .before .before .before) ∙ c .before .before .before .before .before .if1 .left,
+      not-begun (c .before .before .before .before .before) ∙ c .before .before .before .before .if1 .left,
       keeps (c .before .before) ∙ c .before .if2 .taken,
     )
     (ap Settled (c .cut-off .ensures))
@@ -47,7 +43,7 @@ returns-3 : tie.Need-returns-3
 unfolding byParent
 returns-3 c =
     rw (
-      not-begun (c .before .before .before .before .before) ∙ c .before .before .before .before .if1 .left,
+      not-begun (c .before .before .before .before) ∙ c .before .before .before .if1 .left,
       keeps (c .before) ∙ c .if2 .left,
     )
     refl
@@ -59,7 +55,6 @@ by-parent-spec =
     (λ c κs. search needs)
     (λ c κs. search needs)
     returns
-    (λ c κs. search needs)
     (λ c κs. search needs)
     (λ c κs. search needs)
     (λ c κs. search needs)

@@ -1,8 +1,8 @@
 -- `states_of` meets its contract: where the code cuts the record. Assumes nothing.
 use borrow.Author.Needs.{needs}
-use Rattle.record.proofs.Parts.{states-part}
-use Rattle.record.proofs.states_of.Statement.{statement}
-use Rattle.record.proofs.states_of.Tie as tie
+use Rattle.parts.proofs.Parts.{states-part}
+use Rattle.parts.proofs.states_of.Statement.{statement}
+use Rattle.parts.proofs.states_of.Tie as tie
 
 returns : tie.Need-returns
 returns c t whole = states-part t _ _ _ whole

@@ -5,9 +5,9 @@ use Prim.Native.Nat.{_-_, _≤_}
 use native.Mathlib.Numerals.{add-one}
 use native.Mathlib.Omega.{arith}
 use Rattle.rules.specs.Answers.{badRecordWord}
-use Rattle.record.specs.Steps.{anyBelow}
-use Rattle.record.proofs.any_wrong_word.Statement.{statement}
-use Rattle.record.proofs.any_wrong_word.Tie as tie
+use Rattle.parts.specs.OneStep.{anyBelow}
+use Rattle.parts.proofs.any_wrong_word.Statement.{statement}
+use Rattle.parts.proofs.any_wrong_word.Tie as tie
 
 abbrev Inv-loop : tie.InvT-loop
 Inv-loop words n bad₀ p₀ bad p = (p ≤ n) × (bad ≡ anyBelow (badRecordWord words) p)

@@ -1,13 +1,10 @@
--- What is known before the steps of a record are gone through, and what is found before the plans of one step are. Assumes nothing.
+-- One step of a record: where it lies, a wrong word in it, and the picks that explain what it shows. Assumes nothing.
 use Prim.Native.Nat.{ℕ, zero, suc, _+_, _*_, _≤_, _<_}
 use mathlib.Core.Path.{_≡_}
 use mathlib.Core.Bool.{Bool, false, _||_}
 use mathlib.Core.List.{List}
 use lib.ListN.{length}
 use Rattle.rules.specs.Table.{planCount}
-use Rattle.rules.specs.Answers.{recordCheck}
-use Rattle.rules.specs.declared.Outcome.the-variants.{Done}
-use Rattle.table.specs.Facts.{Prepared}
 use Rattle.children.specs.Sets.{Rooted, Narrow}
 use Rattle.moves.specs.StepFacts.{picksOf}
 use Rattle.demands.specs.Witness.{witness}
@@ -31,8 +28,3 @@ pub record Ordered (t : List ℕ) (n : ℕ) (ranks : List ℕ) : Type 0 where
   pub rooted : Rooted t n
   pub narrow : Narrow t n ranks
   pub ranks-room : n ≤ length ranks
-
--- a table that passes, its facts, and a record of good form
-pub record Sound (t r ranks names : List ℕ) : Type 0 where
-  pub done : recordCheck t r ≡ Done
-  pub prepared : Prepared t ranks names

@@ -1,8 +1,8 @@
 -- `words_of` meets its contract: where the code cuts the record. Assumes nothing.
 use borrow.Author.Needs.{needs}
-use Rattle.record.proofs.Parts.{words-part}
-use Rattle.record.proofs.words_of.Statement.{statement}
-use Rattle.record.proofs.words_of.Tie as tie
+use Rattle.parts.proofs.Parts.{words-part}
+use Rattle.parts.proofs.words_of.Statement.{statement}
+use Rattle.parts.proofs.words_of.Tie as tie
 
 returns : tie.Need-returns
 returns c t whole = words-part t _ _ _ whole

@@ -1,9 +1,9 @@
 -- `states_before` meets its contract: the first step starts with all plans inactive. Assumes nothing.
 use mathlib.Core.Path.{_∙_}
 use borrow.Author.Needs.{needs}
-use Rattle.record.proofs.Parts.{before-first, before-next, step-before}
-use Rattle.record.proofs.states_before.Statement.{statement}
-use Rattle.record.proofs.states_before.Tie as tie
+use Rattle.parts.proofs.Parts.{before-first, before-next, step-before}
+use Rattle.parts.proofs.states_before.Statement.{statement}
+use Rattle.parts.proofs.states_before.Tie as tie
 
 returns : tie.Need-returns
 returns c t whole = before-first t _ _ whole _ _ (c .before .if1 .taken) (c .before .before .before .before .pre .1)

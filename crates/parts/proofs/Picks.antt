@@ -21,7 +21,7 @@ use Rattle.children.specs.Sets.{Rooted}
 use Rattle.children.proofs.Kin.{children-own, children-other, children-none}
 use Rattle.lent.proofs.Marks.{some-snoc}
 use Rattle.demands.specs.Witness.{last, firstMarked, activatedChild, witness}
-use Rattle.record.specs.Steps.{Witnessed}
+use Rattle.parts.specs.OneStep.{Witnessed}
 
 -- one number more at the end of a list: the first and the last that pass a test
 first-snoc :

@@ -10,9 +10,9 @@ use borrow.Author.Tests.{not-true}
 use Rattle.rules.specs.Answers.{badRecordWord}
 use Rattle.rules.proofs.Tree.{or-left, or-right}
 use Rattle.table.proofs.Lowest.{stops-here, ends-here}
-use Rattle.record.specs.Steps.{anyBelow}
-use Rattle.record.proofs.lowest_wrong_word.Statement.{statement}
-use Rattle.record.proofs.lowest_wrong_word.Tie as tie
+use Rattle.parts.specs.OneStep.{anyBelow}
+use Rattle.parts.proofs.lowest_wrong_word.Statement.{statement}
+use Rattle.parts.proofs.lowest_wrong_word.Tie as tie
 
 abbrev Inv-loop : tie.InvT-loop
 Inv-loop words n p₀ p = (p ≤ n) × ((k : ℕ) → k < p → badRecordWord words k ≡ false)

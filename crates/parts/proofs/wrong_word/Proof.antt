@@ -1,8 +1,8 @@
 -- `wrong_word` meets its contract: the three tests of a word. Assumes nothing.
 use borrow.Author.Needs.{needs}
 use Rattle.rules.specs.Answers.{badRecordWord}
-use Rattle.record.proofs.wrong_word.Statement.{statement}
-use Rattle.record.proofs.wrong_word.Tie as tie
+use Rattle.parts.proofs.wrong_word.Statement.{statement}
+use Rattle.parts.proofs.wrong_word.Tie as tie
 
 returns : tie.Need-returns
 unfolding badRecordWord

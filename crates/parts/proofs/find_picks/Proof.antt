@@ -12,9 +12,9 @@ use Rattle.rules.specs.Bytes.{byteAt}
 use Rattle.rules.specs.States.{code}
 use Rattle.rules.specs.Table.{bodyOf, isAnyOrder}
 use Rattle.rules.specs.declared.PlanState.the-variants.{Activated}
-use Rattle.record.proofs.Picks.{Finding, PickTurn, finding-root, finding-past, pick-turn, all-found}
-use Rattle.record.proofs.find_picks.Statement.{statement}
-use Rattle.record.proofs.find_picks.Tie as tie
+use Rattle.parts.proofs.Picks.{Finding, PickTurn, finding-root, finding-past, pick-turn, all-found}
+use Rattle.parts.proofs.find_picks.Statement.{statement}
+use Rattle.parts.proofs.find_picks.Tie as tie
 
 abbrev Inv-loop : tie.InvT-loop
 Inv-loop table n ranks old shown picks₀ kept₀ p₀ picks kept p = Finding table old shown n picks₀ kept₀ p picks kept
