@@ -15,12 +15,12 @@ use parts::lowest_wrong_word;
 use parts::states_before;
 use parts::states_of;
 use parts::words_of;
+use pass::advance;
 use reading::u16_at;
 use rules::Outcome;
 use rules::PlanState;
 use rules::Refusal;
 use rules::Verdict;
-use step::advance;
 use table::has_mark;
 use table::read_table;
 

@@ -1,6 +1,5 @@
 -- Laws for the proofs of this crate and of those above it.
-pub mod Turns
-pub mod Facts
+pub mod Leaves
 pub mod Rests
 pub mod Again
 pub mod Unique

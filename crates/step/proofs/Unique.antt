@@ -1,18 +1,11 @@
--- One answer: any two that the contract of `step` or of `rest` permits are equal, and so are the states that they leave; and so is what
--- `advance` leaves. The contract is taken as Rattle reads it: `Post κs a z e`, of the lifetimes, the arguments, the answer and the
+-- One answer: any two that the contract of `step` or of `rest` permits are equal, and so are the states that they leave. The contract is taken as Rattle reads it: `Post κs a z e`, of the lifetimes, the arguments, the answer and the
 -- parameters at exit, arguments and parameters in the order of the declaration. Assumes nothing.
-use Prim.Native.Nat.{ℕ}
-use mathlib.Core.Path.{_≡_, sym, ap, _∙_}
-use mathlib.Core.List.{List}
+use mathlib.Core.Path.{_≡_}
 use contract.Lifetimes.{Lfts}
 use denote.Ref.{now}
-use lib.ListN.{getD}
-use lib.Seq.{getD-take}
 use Rattle.rules.specs.declared.Outcome.{Outcome}
 use Rattle.rules.specs.declared.Rest.{Rest}
 use Rattle.rules.proofs.Unique.{one-answer}
-use Rattle.children.proofs.Unique.{written-once}
-use Rattle.step.proofs.advance.Reads as advance
 use Rattle.step.proofs.step.Reads as step
 use Rattle.step.proofs.rest.Reads as rest
 
@@ -25,14 +18,3 @@ pub rest-once :
     (κs : Lfts 3) (a : _) (z z′ : Rest) (e e′ : _) → rest.Post κs a z e → rest.Post κs a z′ e′
     → (z ≡ z′) × (now (e .1 .0) ≡ now (e′ .1 .0))
 rest-once κs a z z′ e e′ h h′ = (one-answer (h .0) (h′ .0), one-answer (h .1) (h′ .1))
-
-pub advance-once :
-    (κs : Lfts 8) (a : _) (z z′ : _) (e e′ : _) → advance.Post κs a z e → advance.Post κs a z′ e′
-    → now (e .1 .1 .1 .1 .1 .1 .1 .1 .0) ≡ now (e′ .1 .1 .1 .1 .1 .1 .1 .1 .0)
-advance-once κs a z z′ e e′ h h′ =
-    let n : ℕ = a .1 .0 in
-    written-once n _ _ _ (h .1) (h′ .1)
-    (λ k l.
-    sym (getD-take n (now (e .1 .1 .1 .1 .1 .1 .1 .1 .0)) k 0 l)
-    ∙ ap (λ (x : List ℕ). getD x k 0) (one-answer (h .0) (h′ .0))
-    ∙ getD-take n (now (e′ .1 .1 .1 .1 .1 .1 .1 .1 .0)) k 0 l)

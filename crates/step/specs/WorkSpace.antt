@@ -1,16 +1,9 @@
--- The work space of a step and of a run: its room, and the picks that are taken from words. Assumes nothing.
-use Prim.Native.Nat.{ℕ, _*_, _≤_, _<_}
-use mathlib.Core.Path.{_≡_}
+-- The work space of a step: its room. Assumes nothing.
+use Prim.Native.Nat.{ℕ, _*_, _≤_}
 use mathlib.Core.List.{List}
 use lib.ListN.{length}
-use Rattle.rules.specs.Words.{word, pickOf}
 use Rattle.children.specs.Sets.{Empty}
 use Rattle.table.specs.Facts.{RoomFor}
-use Rattle.moves.specs.StepFacts.{picksOf}
-
--- the picks of the first n plans are those of their words
-pub record Taken (w : List ℕ) (n : ℕ) (picks : List ℕ) : Type 0 where
-  pub taken : (q : ℕ) → q < n → picksOf picks q ≡ pickOf (word w q)
 
 -- room for a step of n plans, where the words of children are 0
 pub record StepRoom (n : ℕ) (sets picks new : List ℕ) : Type 0 where

@@ -1,25 +1,21 @@
-// One synchronous step and the run to rest: the one loop over the plans of a step, and the calls above it.
+// One synchronous step and the run to rest: the calls of a host, each in its own work space.
 // A step costs O(n) for n plans; nothing is allocated. Assumes nothing.
 ghost use mathlib.Core.Path.{_≡_};
-ghost use Prim.Native.Nat.{_*_, _≤_};
-ghost use lib.ListN.{length, take};
-ghost use Rattle.rules.specs.Lists.{same};
-ghost use Rattle.rules.specs.Table.{planCount};
-ghost use Rattle.rules.specs.Step.{stepUnder, step};
+ghost use lib.ListN.{length};
+ghost use Rattle.rules.specs.Step.{step};
 ghost use Rattle.rules.specs.Rest.{leastRest, statesAt};
 ghost use Rattle.rules.specs.Answers.{stepAnswer, stepStates, restAnswer, runAnswer, runStates};
-ghost use Rattle.children.specs.Sets.{Beyond};
-ghost use Rattle.moves.specs.StepFacts.{picksOf, StepFacts, Names};
 ghost use Rattle.lent.specs.Calls.{FactsRoom, MayMove};
-ghost use Rattle.step.specs.WorkSpace.{Taken, StepRoom, RoomToStep};
+ghost use Rattle.step.specs.WorkSpace.{StepRoom, RoomToStep};
 use children::resurvey;
 use children::survey;
 use lent::check_call;
-use moves::next_state;
-use reading::word_at;
+use pass::advance;
+use pass::take_over;
+use pass::take_picks;
+use pass::unchanged;
 use rules::Outcome;
 use rules::Rest;
-use rules::pick_of;
 
 // One synchronous step over the states, or a refusal that changes none of them. Its work space is cleared in each call: a small tree
 // does not pay for a large one.
@@ -97,68 +93,6 @@ pub fn rest(table: &[u8], states: &mut [u8], words: &[u8], budget: u16) -> Rest
         Outcome::Refused(why) => Rest::Refused(why),
         Outcome::Done => settle(table, &ranks, &names, states, words, budget),
     }
-}
-
-// One step from `old` into `new` under picks, a rank for each plan: plans move in table order. The step, the run and the checker all go
-// through this one loop, the only caller of a move, which is then compiled into it.
-pub fn advance(
-    table: &[u8],
-    n: usize,
-    ranks: &[u8],
-    names: &[u64],
-    sets: &[u64],
-    picks: &[u8],
-    old: &[u8],
-    words: &[u8],
-    new: &mut [u8],
-)
-    requires facts { ⌜ StepFacts (now table) (now old) (now ranks) (now sets) (now picks) ⌝ }
-    requires names { ⌜ Names (now table) (now names) ⌝ }
-    requires room { ⌜ (n ≡ planCount (now table)) × (n ≤ length (now new)) × (4 * n ≤ length (now words)) ⌝ }
-    ensures moved { λ _. ⌜ take n (now (new .exit))
-        ≡ stepUnder (now (table .entry)) (now (old .entry)) (now (words .entry)) (picksOf (now (picks .entry))) ⌝ }
-    ensures rest { λ _. ⌜ Beyond n (now (new .entry)) (now (new .exit)) ⌝ }
-{
-    for p in 0..n {
-        new[p] = next_state(table, ranks, names, sets, picks, old, words, new, p).to_byte();
-    }
-}
-
-// The picks of the words.
-fn take_picks(words: &[u8], n: usize, picks: &mut [u8])
-    requires { ⌜ (4 * n ≤ length (now words)) × (n ≤ length (now picks)) ⌝ }
-    ensures { λ _. ⌜ Taken (now (words .entry)) n (now (picks .exit)) ⌝ }
-{
-    for p in 0..n {
-        picks[p] = pick_of(word_at(words, p)) as u8;
-    }
-}
-
-// Copies the new states over the states.
-fn take_over(new: &[u8], states: &mut [u8])
-    requires { ⌜ length (now states) ≤ length (now new) ⌝ }
-    ensures { λ _. ⌜ now (states .exit) ≡ take (length (now (states .entry))) (now (new .entry)) ⌝ }
-{
-    let n = states.len();
-    for p in 0..n {
-        states[p] = new[p];
-    }
-}
-
-// Whether the new states are the states.
-fn unchanged(new: &[u8], states: &[u8]) -> bool
-    requires { ⌜ length (now states) ≤ length (now new) ⌝ }
-    ensures { λ r. ⌜ r ≡ same (take (length (now (states .entry))) (now (new .entry))) (now (states .entry)) ⌝ }
-{
-    let n = states.len();
-    let mut p = 0;
-    while p < n {
-        if new[p] != states[p] {
-            return false;
-        }
-        p += 1;
-    }
-    true
 }
 
 // The same, within work space that has room for every plan of the table, and whose words are 0.

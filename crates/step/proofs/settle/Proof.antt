@@ -14,8 +14,8 @@ use Rattle.rules.proofs.Tree.{passes, tree}
 use Rattle.children.specs.Sets.{Beyond, Surveyed}
 use Rattle.moves.specs.StepFacts.{picksOf}
 use Rattle.lent.specs.Calls.{MayMove}
-use Rattle.step.specs.WorkSpace.{Taken}
-use Rattle.step.proofs.Facts.{known-names, may-survey, step-facts, taken-small, taken-step, may-resurvey, surveyed-part}
+use Rattle.pass.specs.Taken.{Taken}
+use Rattle.pass.proofs.Facts.{known-names, may-survey, step-facts, taken-small, taken-step, may-resurvey, surveyed-part}
 use Rattle.step.proofs.Rests.{Running, running-none, running-next, moves-still, rests, moves}
 use Rattle.step.proofs.settle.Statement.{statement}
 use Rattle.step.proofs.settle.Tie as tie
@@ -86,7 +86,7 @@ advance-requires c κs =
     let whole = first .passes .long in
     let moves = moves-at at in (
       step-facts _ _ _ _ _ moves _ whole _ (inv .surveyed) (omega (arith, inv .sets-long)) _ (omega (arith, most))
-          (taken-small _ _ _ _ _ moves _ whole _ (taken-of at .take-picks .ensures)),
+          (taken-small _ _ _ _ _ moves _ whole _ (taken-of at .take-picks .ensures .0)),
       (known-names _ _ _ _ _ moves _ whole, (whole, omega (arith, inv .new-long), omega (arith, first .words, whole))),
     )
 
@@ -109,7 +109,7 @@ returns c =
     let advanced = c .before .before .before .before .before in
     let at = advanced .before .before .before .before .before in
     let inv = at .loop .inv in
-    let next = is-step at (taken-of at .take-picks .ensures) (advanced .advance .ensures .0) in
+    let next = is-step at (taken-of at .take-picks .ensures .0) (advanced .advance .ensures .0) in
     rests _ _ _ _ _ (inv .running) _ (inv .within)
     (tested _ _ _ _ _ (inv .long) next (c .before .unchanged .ensures) ∙ c .if1 .taken)
 
@@ -119,7 +119,7 @@ returns-2 c =
     let advanced = changed .before .before .before .before .before in
     let at = advanced .before .before .before .before .before in
     let inv = at .loop .inv in
-    let next = is-step at (taken-of at .take-picks .ensures) (advanced .advance .ensures .0) in
+    let next = is-step at (taken-of at .take-picks .ensures .0) (advanced .advance .ensures .0) in
     moves _ _ _ _ _ (inv .running) _ (c .if2 .taken)
     (tested _ _ _ _ _ (inv .long) next (changed .before .unchanged .ensures) ∙ changed .if1 .left)
 
@@ -130,7 +130,7 @@ resurvey-requires c κs =
     let at = advanced .before .before .before .before .before in
     let inv = at .loop .inv in
     let first = start-of at .pre in
-    let next = is-step at (taken-of at .take-picks .ensures) (advanced .advance .ensures .0) in
+    let next = is-step at (taken-of at .take-picks .ensures .0) (advanced .advance .ensures .0) in
     let moved =
     running-next _ _ _ _ _ (inv .running) _
     (tested _ _ _ _ _ (inv .long) next (changed .before .unchanged .ensures) ∙ changed .if1 .left)
@@ -148,7 +148,7 @@ loop-again c =
     let advanced = changed .before .before .before .before .before in
     let at = advanced .before .before .before .before .before in
     let inv = at .loop .inv in
-    let next = is-step at (taken-of at .take-picks .ensures) (advanced .advance .ensures .0) in
+    let next = is-step at (taken-of at .take-picks .ensures .0) (advanced .advance .ensures .0) in
     record {
       sets-long = resurvey .1 .long ∙ inv .sets-long;
       new-long = advanced .advance .ensures .1 .long ∙ inv .new-long;

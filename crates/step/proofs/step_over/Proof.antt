@@ -4,7 +4,7 @@ use mathlib.Core.Path.{_∙_}
 use native.Mathlib.Omega.{arith}
 use borrow.Author.Needs.{needs}
 use denote.Ref.{now}
-use Rattle.step.proofs.Facts.{known-names, may-survey, step-facts, taken-small, taken-step}
+use Rattle.pass.proofs.Facts.{known-names, may-survey, step-facts, taken-small, taken-step}
 use Rattle.step.proofs.step_over.Statement.{statement}
 use Rattle.step.proofs.step_over.Tie as tie
 
@@ -36,7 +36,7 @@ advance-requires c κs =
     let survey = surveyed .survey .ensures in (
       step-facts _ _ _ _ _ moves _ whole _ (survey .0) (omega (arith, room .sets-room, survey .1 .long)) _
           (omega (arith, room .picks-room))
-          (taken-small _ _ _ _ _ moves _ whole _ (taken .take-picks .ensures)),
+          (taken-small _ _ _ _ _ moves _ whole _ (taken .take-picks .ensures .0)),
       (known-names _ _ _ _ _ moves _ whole, (whole, room .new-room, omega (arith, moves .words, whole))),
     )
 
@@ -47,7 +47,7 @@ returns c =
     let moves = start-of (taken .before .before .before .before) .pre .0 in
     c .before .before .take-over .ensures
     ∙ advanced .advance .ensures .0
-    ∙ taken-step _ _ _ _ _ moves _ (moves .passes .long) _ (taken .take-picks .ensures)
+    ∙ taken-step _ _ _ _ _ moves _ (moves .passes .long) _ (taken .take-picks .ensures .0)
 
 pub step-over-spec : {M : Type 1} → statement M
 step-over-spec =

@@ -5,16 +5,18 @@ use native.Mathlib.Omega.{arith}
 use borrow.Author.Count.{below-none, below-more}
 use borrow.Author.Needs.{needs}
 use denote.Ref.{now}
-use lib.ListN.{length, getD, set, length-set}
+use lib.ListN.{getD, set}
 use lib.Seq.{getD-set-same, getD-set-other}
 use Rattle.rules.specs.Words.{word, pickOf}
+use Rattle.children.specs.Sets.{Beyond}
 use Rattle.moves.specs.StepFacts.{picksOf}
-use Rattle.step.proofs.take_picks.Statement.{statement}
-use Rattle.step.proofs.take_picks.Tie as tie
+use Rattle.pass.proofs.Turns.{none-written, one-more-written}
+use Rattle.pass.proofs.take_picks.Statement.{statement}
+use Rattle.pass.proofs.take_picks.Tie as tie
 
 abbrev Inv-loop : tie.InvT-loop
 Inv-loop words n picks₀ p₀ picks p =
-    (p ≤ n) × (length picks ≡ length picks₀) × ((q : ℕ) → q < p → picksOf picks q ≡ pickOf (word words q))
+    (p ≤ n) × Beyond p picks₀ picks × ((q : ℕ) → q < p → picksOf picks q ≡ pickOf (word words q))
 
 abbrev μ-loop : tie.MeasureT-loop
 μ-loop words n picks₀ p₀ picks p = n - p
@@ -26,16 +28,19 @@ loop-again c =
     let words = now (turn .before .before .before .before .args .words) in
     let pick = c .pick-of .result in (
       omega arith,
-      simp length-set (at .inv .1),
+      one-more-written _ (at .picks) (at .p) _ (at .inv .1),
       below-more (λ (q : ℕ). getD (set (at .picks) (at .p) pick) q 0 ≡ pickOf (word words q)) (at .p)
           (λ q l. getD-set-other (at .picks) (at .p) q _ 0 (λ e. omega arith) ∙ at .inv .2 q l)
-          (getD-set-same (at .picks) (at .p) _ 0 (omega (arith, at .inv .1))
+          (getD-set-same (at .picks) (at .p) _ 0 (omega (arith, at .inv .1 .long))
           ∙ c .pick-of .ensures .0
           ∙ ap pickOf (c .before .word-at .ensures)),
     )
 
 returns : tie.Need-returns Inv-loop μ-loop
-returns c = record { taken = λ q l. c .before .loop .inv .2 q (omega arith) }
+returns c =
+    let inv = c .before .loop .inv in
+    let end : c .before .loop .p ≡ c .before .before .before .before .args .n = omega arith in
+    (record { taken = λ q l. inv .2 q (omega arith) }, rw end at (inv .1))
 
 pub take-picks-spec : {M : Type 1} → statement M
 take-picks-spec =
@@ -43,7 +48,7 @@ take-picks-spec =
     (tie.spec
     Inv-loop
     μ-loop
-    (λ c. (omega arith, omega arith, below-none _))
+    (λ c. (omega arith, none-written _, below-none _))
     (λ c κs. omega arith)
     (λ c κs. search needs)
     (λ c. omega (arith, c .pick-of .ensures .1))
@@ -51,5 +56,5 @@ take-picks-spec =
     (λ c. omega arith)
     (λ c. omega arith)
     loop-again
-    (λ c. c .before .loop .inv .1)
+    (λ c. c .before .loop .inv .1 .long)
     returns)

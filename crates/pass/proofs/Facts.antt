@@ -1,7 +1,7 @@
 -- From a call that passes to what the plans' moves read: the words of a survey are those of each plan's children. Assumes nothing.
 use Prim.Native.Nat.{ℕ, zero, suc, _*_, _≤_, _<_}
 use native.Mathlib.Omega.{arith}
-use mathlib.Core.Path.{_≡_, refl, sym, ap, _∙_}
+use mathlib.Core.Path.{_≡_, sym, ap, _∙_}
 use mathlib.Core.Bool.{true, false}
 use mathlib.Core.List.{List}
 use lib.Dec.{eqb}
@@ -13,9 +13,6 @@ use Rattle.rules.specs.Table.{planCount, parent, children}
 use Rattle.rules.specs.Words.{word, pickOf}
 use Rattle.rules.specs.Step.{stepUnder, step}
 use Rattle.rules.specs.HandedIn.{badState, breaksUnder}
-use Rattle.rules.specs.Answers.{callCheck, stepStates}
-use Rattle.rules.specs.declared.Refusal.{Refusal}
-use Rattle.rules.specs.declared.Outcome.the-variants.{Done, Refused}
 use Rattle.rules.specs.declared.PlanState.{PlanState}
 use Rattle.rules.proofs.Codes.{state-is, code-lt, test-code}
 use Rattle.rules.proofs.Tree.{or-left, Passes, passes, Tree, tree}
@@ -26,14 +23,7 @@ use Rattle.moves.specs.ChildWords.{ChildWords}
 use Rattle.moves.specs.StepFacts.{picksOf, StepFacts, Names}
 use Rattle.lent.specs.Calls.{MayMove}
 use Rattle.lent.proofs.Calls.{rooted}
-use Rattle.step.specs.WorkSpace.{Taken}
-
--- what the step leaves
-pub step-leaves : (t s w : List ℕ) (why : Refusal) → callCheck t s w ≡ Refused why → s ≡ stepStates t s w
-step-leaves t s w why e = rw (stepStates, e) refl
-
-pub step-steps : (t s w new : List ℕ) → callCheck t s w ≡ Done → new ≡ step t s w → new ≡ stepStates t s w
-step-steps t s w new e h = rw (stepStates, e) h
+use Rattle.pass.specs.Taken.{Taken}
 
 -- a state is tested by its byte
 state-test : (s : List ℕ) (c : ℕ) → byteAt s c < 9 → (x : PlanState) → eqb (byteAt s c) (code x) ≡ is x (stateAt s c)

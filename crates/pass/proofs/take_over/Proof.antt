@@ -6,8 +6,8 @@ use borrow.Author.Count.{below-none, below-more}
 use denote.Ref.{now}
 use lib.ListN.{length, getD, set, take, length-set}
 use lib.Seq.{getD-set-same, getD-set-other, getD-take, length-take-le, ext-getD}
-use Rattle.step.proofs.take_over.Statement.{statement}
-use Rattle.step.proofs.take_over.Tie as tie
+use Rattle.pass.proofs.take_over.Statement.{statement}
+use Rattle.pass.proofs.take_over.Tie as tie
 
 abbrev Inv-loop : tie.InvT-loop
 Inv-loop new states₀ n p₀ states p =

@@ -7,8 +7,8 @@ use denote.Ref.{now}
 use lib.ListN.{length, getD, take}
 use lib.Seq.{getD-take, length-take-le, ext-getD}
 use Rattle.rules.proofs.Same.{equal-same, differ-same}
-use Rattle.step.proofs.unchanged.Statement.{statement}
-use Rattle.step.proofs.unchanged.Tie as tie
+use Rattle.pass.proofs.unchanged.Statement.{statement}
+use Rattle.pass.proofs.unchanged.Tie as tie
 
 abbrev Inv-loop : tie.InvT-loop
 Inv-loop new states n p₀ p = (p ≤ n) × ((k : ℕ) → k < p → getD new k 0 ≡ getD states k 0)

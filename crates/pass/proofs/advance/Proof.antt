@@ -10,9 +10,9 @@ use Rattle.rules.specs.Table.{planCount}
 use Rattle.rules.specs.Step.{chosen, stepFirst}
 use Rattle.children.specs.Sets.{Beyond}
 use Rattle.moves.specs.StepFacts.{picksOf}
-use Rattle.step.proofs.Turns.{none-moved, one-more-moved, all-moved, none-written, one-more-written}
-use Rattle.step.proofs.advance.Statement.{statement}
-use Rattle.step.proofs.advance.Tie as tie
+use Rattle.pass.proofs.Turns.{none-moved, one-more-moved, all-moved, none-written, one-more-written}
+use Rattle.pass.proofs.advance.Statement.{statement}
+use Rattle.pass.proofs.advance.Tie as tie
 
 abbrev Inv-loop : tie.InvT-loop
 Inv-loop table n ranks names sets picks old words new₀ p₀ new p =
