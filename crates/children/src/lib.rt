@@ -48,14 +48,6 @@ pub fn collect_named(table: &[u8], n: usize, ranks: &[u8], words: &mut [u64])
     }
 }
 
-// The bit of a rank, if it is to be set.
-fn bit_if(set: bool, rank: u8) -> u64
-    requires { ⌜ rank < 64 ⌝ }
-    ensures { λ r. ⌜ r ≡ cond set 1 0 * 2 ^ rank ⌝ }
-{
-    if set { 1u64 << rank } else { 0 }
-}
-
 // For each plan and each of the nine states the word of the plan's children in that state, nine words a plan, where all are 0 before.
 pub fn survey(table: &[u8], n: usize, ranks: &[u8], states: &[u8], sets: &mut [u64])
     requires rooted { ⌜ Rooted (now table) n ⌝ }
@@ -95,6 +87,14 @@ pub fn resurvey(table: &[u8], n: usize, ranks: &[u8], old: &[u8], new: &[u8], se
         sets[from] -= bit;
         sets[to] += bit;
     }
+}
+
+// The bit of a rank, if it is to be set.
+fn bit_if(set: bool, rank: u8) -> u64
+    requires { ⌜ rank < 64 ⌝ }
+    ensures { λ r. ⌜ r ≡ cond set 1 0 * 2 ^ rank ⌝ }
+{
+    if set { 1u64 << rank } else { 0 }
 }
 
 // A byte as an index: named, so that a reader of it has its bound.

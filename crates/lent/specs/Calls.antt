@@ -7,7 +7,7 @@ use Rattle.rules.specs.Bytes.{byteAt}
 use Rattle.rules.specs.Table.{planCount, children}
 use Rattle.rules.specs.Answers.{tableCheck, callCheck}
 use Rattle.children.specs.Sets.{Rooted}
-use Rattle.table.specs.Facts.{RoomFor, Facts, Prepared}
+use Rattle.table.specs.Facts.{Facts, Prepared}
 use Rattle.demands.specs.PassesStates.{PassesStates}
 use Rattle.rules.specs.declared.Outcome.{Outcome}
 use Rattle.rules.specs.declared.Outcome.the-variants.{Done}
@@ -32,12 +32,6 @@ pub record Tabled (t counts : List ℕ) : Type 0 where
   pub done : tableCheck t ≡ Done
   pub room : planCount t ≤ length counts
   pub counted : (q : ℕ) → q < planCount t → byteAt counts q ≡ length (children t q)
-
--- room for the facts of every table of this length
-pub record FactsRoom (t ranks counts names : List ℕ) : Type 0 where
-  pub ranks-room : RoomFor t 1 ranks
-  pub counts-room : RoomFor t 1 counts
-  pub names-room : RoomFor t 1 names
 
 -- a call has been checked, with this outcome; where it passes the table's facts are known
 pub record Called (t s w ranks counts names : List ℕ) (outcome : Outcome) : Type 0 where

@@ -1,4 +1,4 @@
 -- Laws for the proofs of this crate and of those above it.
 pub mod Turns
-pub mod Facts
+pub mod StepFacts
 pub mod Unique

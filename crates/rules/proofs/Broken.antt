@@ -1,15 +1,15 @@
 -- What demand 3's last rules rule out: for each of them states, or states before and after a step, that break it, proved to break it,
 -- under a sequential plan (body 1) and under an any-order one (3). And picks that words may not hold explain nothing. So that none of
 -- these definitions can lose a part unseen. Assumes nothing.
-use Prim.Native.Nat.{ℕ, zero, suc}
+use Prim.Native.Nat.{ℕ, zero, suc, _<_}
 use native.Mathlib.Omega.{arith}
 use mathlib.Core.Bool.{false, true≢false}
 use mathlib.Core.Path.{_≡_, refl, sym, ap, _∙_}
 use mathlib.Core.Logic.{⊎-elim}
 use mathlib.Core.List.{List}
-use lib.Dec.{eqb}
+use lib.Dec.{T, eqb}
 use borrow.Author.Tests.{eq-eqb}
-use Rattle.rules.specs.States.{code, stateAt}
+use Rattle.rules.specs.States.{code, stateAt, ended}
 use Rattle.rules.specs.declared.PlanState.{PlanState}
 use Rattle.rules.specs.Table.{isOrIsAbove, childrenBefore, children}
 use Rattle.rules.specs.Record.{Explained}
@@ -46,67 +46,51 @@ pub activated-under-suspended : (body : ℕ) → OnlyWhileParent (pair body) (st
 unfolding T1Of states stateAt
 activated-under-suspended body rule = differ (rule 0 1 (child-1 body) refl) refl
 
--- Whatever the body, a plan that has ended and is shown in another state, though nobody counts as retried for it.
+-- Whatever the body, plan p of the three that has ended and is shown in another state, though none of them counts as retried for it.
+module _ (body before after p : ℕ) (within : p < 3) where
+  abbrev RetriedFor : ℕ → Type 0
+  RetriedFor a = Retried (pair body) (states before) (states after) a p
+
+  loses :
+      T (ended (stateAt (states before) p)) → (stateAt (states after) p ≡ stateAt (states before) p → ⊥) → (RetriedFor 0 → ⊥)
+      → (RetriedFor 1 → ⊥) → (RetriedFor 2 → ⊥) → EndingsKept (pair body) (states before) (states after) → ⊥
+  unfolding T1Of states stateAt
+  loses over unlike not-0 not-1 not-2 rule =
+      ⊎-elim unlike (λ found. nobody (found .0) (found .1)) (rule p (omega arith) over)
+    where
+      nobody : (a : ℕ) → RetriedFor a → ⊥
+      nobody zero r = not-0 r
+      nobody (suc zero) r = not-1 r
+      nobody (suc (suc zero)) r = not-2 r
+      nobody (suc (suc (suc a))) r = differ (r .was) refl
 
 module _ (body : ℕ) where
-  -- a Completed and a Rejected plan that are considered again: they were not Aborted
+  -- a Completed plan, or a Rejected one, that is considered again: it was not Aborted
   pub completed-again : EndingsKept (pair body) (states 463) (states 413) → ⊥
-  unfolding T1Of states stateAt isOrIsAbove
-  completed-again rule =
-      ⊎-elim unlike (λ found. nobody (found .0) (found .1)) (rule 1 (omega arith) tt)
-    where
-      unlike : stateAt (states 413) 1 ≡ stateAt (states 463) 1 → ⊥
-      unlike same = differ same refl
-
-      nobody : (a : ℕ) → Retried (pair body) (states 463) (states 413) a 1 → ⊥
-      nobody zero r = differ (r .was) refl
-      nobody (suc zero) r = differ (r .was) refl
-      nobody (suc (suc zero)) r = differ (r .was) refl
-      nobody (suc (suc (suc a))) r = differ (r .was) refl
+  unfolding T1Of states stateAt
+  completed-again =
+      loses body 463 413 1 (omega arith) tt (λ e. differ e refl) (λ r. differ (r .was) refl) (λ r. differ (r .was) refl)
+      (λ r. differ (r .was) refl)
 
   pub rejected-again : EndingsKept (pair body) (states 483) (states 413) → ⊥
-  unfolding T1Of states stateAt isOrIsAbove
-  rejected-again rule =
-      ⊎-elim unlike (λ found. nobody (found .0) (found .1)) (rule 1 (omega arith) tt)
-    where
-      unlike : stateAt (states 413) 1 ≡ stateAt (states 483) 1 → ⊥
-      unlike same = differ same refl
-
-      nobody : (a : ℕ) → Retried (pair body) (states 483) (states 413) a 1 → ⊥
-      nobody zero r = differ (r .was) refl
-      nobody (suc zero) r = differ (r .was) refl
-      nobody (suc (suc zero)) r = differ (r .was) refl
-      nobody (suc (suc (suc a))) r = differ (r .was) refl
+  unfolding T1Of states stateAt
+  rejected-again =
+      loses body 483 413 1 (omega arith) tt (λ e. differ e refl) (λ r. differ (r .was) refl) (λ r. differ (r .was) refl)
+      (λ r. differ (r .was) refl)
 
   -- an Aborted plan that goes on at once: it is not shown Considered
   pub aborted-goes-on : EndingsKept (pair body) (states 473) (states 443) → ⊥
-  unfolding T1Of states stateAt isOrIsAbove
-  aborted-goes-on rule =
-      ⊎-elim unlike (λ found. nobody (found .0) (found .1)) (rule 1 (omega arith) tt)
-    where
-      unlike : stateAt (states 443) 1 ≡ stateAt (states 473) 1 → ⊥
-      unlike same = differ same refl
-
-      nobody : (a : ℕ) → Retried (pair body) (states 473) (states 443) a 1 → ⊥
-      nobody zero r = differ (r .was) refl
-      nobody (suc zero) r = differ (r .now) refl
-      nobody (suc (suc zero)) r = differ (r .was) refl
-      nobody (suc (suc (suc a))) r = differ (r .was) refl
+  unfolding T1Of states stateAt
+  aborted-goes-on =
+      loses body 473 443 1 (omega arith) tt (λ e. differ e refl) (λ r. differ (r .was) refl) (λ r. differ (r .now) refl)
+      (λ r. differ (r .was) refl)
 
   -- a Completed plan beside one that is retried: that one is not above it
   pub beside-a-retried-plan : EndingsKept (pair body) (states 476) (states 410) → ⊥
   unfolding T1Of states stateAt isOrIsAbove
-  beside-a-retried-plan rule =
-      ⊎-elim unlike (λ found. nobody (found .0) (found .1)) (rule 2 (omega arith) tt)
-    where
-      unlike : stateAt (states 410) 2 ≡ stateAt (states 476) 2 → ⊥
-      unlike same = differ same refl
-
-      nobody : (a : ℕ) → Retried (pair body) (states 476) (states 410) a 2 → ⊥
-      nobody zero r = differ (r .was) refl
-      nobody (suc zero) r = r .isOrAbove
-      nobody (suc (suc zero)) r = differ (r .was) refl
-      nobody (suc (suc (suc a))) r = differ (r .was) refl
+  beside-a-retried-plan =
+      loses body 476 410 2 (omega arith) tt (λ e. differ e refl) (λ r. differ (r .was) refl) (λ r. r .isOrAbove)
+      (λ r. differ (r .was) refl)
 
 -- Picks that words may not hold: another rank than a child's under an any-order plan, any but 0 under a sequential one.
 pub no-such-child : (s w shown : List ℕ) (k : ℕ) (e : Explained (pair 3) s w shown k) → e .pick 0 ≡ 2 → ⊥

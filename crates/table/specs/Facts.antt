@@ -17,6 +17,10 @@ use Rattle.rules.specs.declared.Outcome.the-variants.{Done}
 use Rattle.table.specs.declared.Rule.{Rule}
 use Rattle.table.specs.declared.Rule.the-variants.{Undefined, Unfit, Wait}
 
+-- a table has room for n plans, 1 to 256
+abbrev pub HasPlans : List ℕ → ℕ → Type 0
+HasPlans t n = (0 < n) × (n ≤ 256) × (8 + 8 * n ≤ length t)
+
 -- check 6 finds r: the lowest bad plan, or n, and then the first n plans have earlier parents, known ranks below 64, and known numbers of
 -- children
 pub record Shaped (t : List ℕ) (n : ℕ) (ranks counts : List ℕ) (r : ℕ) : Type 0 where
@@ -49,6 +53,12 @@ pub record Known (t : List ℕ) (n : ℕ) (counts names : List ℕ) : Type 0 whe
 -- a buffer has room for k numbers a plan, as many plans as the table's bytes may have: never more than 256
 abbrev pub RoomFor : List ℕ → ℕ → List ℕ → Type 0
 RoomFor t k buffer = (n : ℕ) → length t ≡ 8 + 8 * n → n ≤ 256 → n * k ≤ length buffer
+
+-- room for the facts of every table of this length
+pub record FactsRoom (t ranks counts names : List ℕ) : Type 0 where
+  pub ranks-room : RoomFor t 1 ranks
+  pub counts-room : RoomFor t 1 counts
+  pub names-room : RoomFor t 1 names
 
 -- what a table that passes gives to those above: its plans' parents, ranks, numbers of children and named children
 pub record Facts (t ranks counts names : List ℕ) : Type 0 where

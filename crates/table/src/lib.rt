@@ -12,7 +12,7 @@ ghost use Rattle.rules.specs.Answers.{undefinedEntry, strayAt, unfitEntry, unro
 ghost use Rattle.rules.specs.SubTree.{subTree};
 ghost use Rattle.children.specs.Sets.{Rooted};
 ghost use Rattle.table.specs.Lowest.{Lowest};
-ghost use Rattle.table.specs.Facts.{Shaped, breaksEntry, breaking, Known, RoomFor, Checked, outside};
+ghost use Rattle.table.specs.Facts.{HasPlans, Shaped, breaksEntry, breaking, Known, FactsRoom, Checked, outside};
 use children::collect_named;
 use children::rank_children;
 use reading::entry_at;
@@ -51,6 +51,47 @@ pub fn header_check(table: &[u8]) -> Outcome
     Outcome::Done
 }
 
+// The rules of checks 7, 8 and 9.
+pub enum Rule {
+    Undefined,
+    Unfit,
+    Wait,
+}
+
+// Checks 1 to 9. Of a good table the buffers then hold the plans' ranks, numbers of children and named children.
+pub fn read_table(table: &[u8], ranks: &mut [u8], counts: &mut [u8], names: &mut [u64]) -> Outcome
+    requires { ⌜ FactsRoom (now table) (now ranks) (now counts) (now names) ⌝ }
+    ensures { λ r. ⌜ Checked (now (table .entry)) (now (ranks .exit)) (now (counts .exit)) (now (names .exit)) r ⌝ }
+{
+    match header_check(table) {
+        Outcome::Refused(why) => Outcome::Refused(why),
+        Outcome::Done => body_check(table, ranks, counts, names),
+    }
+}
+
+// What document 01 says of a table: accepted with its number of plans, or refused.
+pub fn check_table(table: &[u8]) -> Verdict
+    ensures { λ r. ⌜ r ≡ tableVerdict (now (table .entry)) ⌝ }
+{
+    let mut ranks = [0u8; 256];
+    let mut counts = [0u8; 256];
+    let mut names = [0u64; 256];
+    match read_table(table, &mut ranks, &mut counts, &mut names) {
+        Outcome::Refused(why) => Verdict::Refused(why),
+        Outcome::Done => Verdict::Accepted(u16_at(table, 5)),
+    }
+}
+
+// The sub tree question: the caller's own states from the plan through its last descendant, or none of them.
+pub fn sub_tree<'a>(table: &[u8], states: &'a [u8], plan: usize) -> &'a [u8]
+    ensures { λ r. ⌜ now r ≡ subTree (now (table .entry)) (now (states .entry)) plan ⌝ }
+{
+    match check_table(table) {
+        Verdict::Refused(_) => &states[0..0],
+        Verdict::Accepted(n) => part(table, n as usize, states, plan),
+    }
+}
+
 // Whether a is the plan `from` or an ancestor of it, where the plans up to `from` have earlier parents.
 fn climbs_to(table: &[u8], a: usize, from: usize) -> bool
     requires { ⌜ Rooted (now table) (from + 1) ⌝ }
@@ -65,7 +106,7 @@ fn climbs_to(table: &[u8], a: usize, from: usize) -> bool
 
 // The lowest plan that breaks the parent rule, or n.
 fn lowest_unrooted(table: &[u8], n: usize) -> usize
-    requires { ⌜ (0 < n) × (n ≤ 256) × (8 + 8 * n ≤ length (now table)) ⌝ }
+    requires { ⌜ HasPlans (now table) n ⌝ }
     ensures { λ r. ⌜ Lowest (unrooted (now (table .entry))) n r ⌝ }
 {
     if parent_at(table, 0) != 65535 {
@@ -99,20 +140,13 @@ fn lowest_crowded(ranks: &[u8], n: usize) -> usize
 // Check 6: the lowest plan that breaks the parent rule or is a 65th child, or n. Where it is n, the ranks and the numbers of children
 // are found.
 fn lowest_bad_parent(table: &[u8], n: usize, ranks: &mut [u8], counts: &mut [u8]) -> usize
-    requires table { ⌜ (0 < n) × (n ≤ 256) × (8 + 8 * n ≤ length (now table)) ⌝ }
+    requires table { ⌜ HasPlans (now table) n ⌝ }
     requires room { ⌜ (n ≤ length (now ranks)) × (n ≤ length (now counts)) ⌝ }
     ensures { λ r. ⌜ Shaped (now (table .entry)) n (now (ranks .exit)) (now (counts .exit)) r ⌝ }
 {
     let rooted = lowest_unrooted(table, n);
     rank_children(table, rooted, ranks, counts);
     lowest_crowded(ranks, rooted)
-}
-
-// The rules of checks 7, 8 and 9.
-pub enum Rule {
-    Undefined,
-    Unfit,
-    Wait,
 }
 
 // Check 7 of an entry.
@@ -192,7 +226,7 @@ fn plans_check(table: &[u8], n: usize, counts: &[u8], names: &[u64]) -> Outcome
 // Checks 5 to 9 of a table whose header passes.
 fn body_check(table: &[u8], ranks: &mut [u8], counts: &mut [u8], names: &mut [u64]) -> Outcome
     requires header { ⌜ headerCheck (now table) ≡ Outcome.Done ⌝ }
-    requires room { ⌜ RoomFor (now table) 1 (now ranks) × RoomFor (now table) 1 (now counts) × RoomFor (now table) 1 (now names) ⌝ }
+    requires room { ⌜ FactsRoom (now table) (now ranks) (now counts) (now names) ⌝ }
     ensures { λ r. ⌜ Checked (now (table .entry)) (now (ranks .exit)) (now (counts .exit)) (now (names .exit)) r ⌝ }
 {
     let n = u16_at(table, 5) as usize;
@@ -207,30 +241,6 @@ fn body_check(table: &[u8], ranks: &mut [u8], counts: &mut [u8], names: &mut [u6
     }
     collect_named(table, n, ranks, names);
     plans_check(table, n, counts, names)
-}
-
-// Checks 1 to 9. Of a good table the buffers then hold the plans' ranks, numbers of children and named children.
-pub fn read_table(table: &[u8], ranks: &mut [u8], counts: &mut [u8], names: &mut [u64]) -> Outcome
-    requires { ⌜ RoomFor (now table) 1 (now ranks) × RoomFor (now table) 1 (now counts) × RoomFor (now table) 1 (now names) ⌝ }
-    ensures { λ r. ⌜ Checked (now (table .entry)) (now (ranks .exit)) (now (counts .exit)) (now (names .exit)) r ⌝ }
-{
-    match header_check(table) {
-        Outcome::Refused(why) => Outcome::Refused(why),
-        Outcome::Done => body_check(table, ranks, counts, names),
-    }
-}
-
-// What document 01 says of a table: accepted with its number of plans, or refused.
-pub fn check_table(table: &[u8]) -> Verdict
-    ensures { λ r. ⌜ r ≡ tableVerdict (now (table .entry)) ⌝ }
-{
-    let mut ranks = [0u8; 256];
-    let mut counts = [0u8; 256];
-    let mut names = [0u64; 256];
-    match read_table(table, &mut ranks, &mut counts, &mut names) {
-        Outcome::Refused(why) => Verdict::Refused(why),
-        Outcome::Done => Verdict::Accepted(u16_at(table, 5)),
-    }
 }
 
 // The first plan after the sub tree of `plan`: the lowest one behind it whose parent stands before it, or n.
@@ -261,14 +271,4 @@ fn part<'a>(table: &[u8], n: usize, states: &'a [u8], plan: usize) -> &'a [u8]
     }
     let e = end_of(table, n, plan);
     &states[plan..e]
-}
-
-// The sub tree question: the caller's own states from the plan through its last descendant, or none of them.
-pub fn sub_tree<'a>(table: &[u8], states: &'a [u8], plan: usize) -> &'a [u8]
-    ensures { λ r. ⌜ now r ≡ subTree (now (table .entry)) (now (states .entry)) plan ⌝ }
-{
-    match check_table(table) {
-        Verdict::Refused(_) => &states[0..0],
-        Verdict::Accepted(n) => part(table, n as usize, states, plan),
-    }
 }

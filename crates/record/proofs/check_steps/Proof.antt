@@ -17,7 +17,7 @@ use Rattle.rules.specs.declared.Verdict.the-variants as verdict
 use Rattle.children.specs.Sets.{Surveyed}
 use Rattle.lent.specs.Calls.{MayMove}
 use Rattle.lent.proofs.Calls.{rooted}
-use Rattle.pass.proofs.Facts.{known-names, narrow, may-survey, may-resurvey, step-facts}
+use Rattle.pass.proofs.StepFacts.{known-names, narrow, may-survey, may-resurvey, step-facts}
 use Rattle.record.proofs.Form.{few}
 use Rattle.record.proofs.Steps.{
   idle-part,

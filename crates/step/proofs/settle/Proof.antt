@@ -15,7 +15,7 @@ use Rattle.children.specs.Sets.{Beyond, Surveyed}
 use Rattle.moves.specs.StepFacts.{picksOf}
 use Rattle.lent.specs.Calls.{MayMove}
 use Rattle.pass.specs.Taken.{Taken}
-use Rattle.pass.proofs.Facts.{known-names, may-survey, step-facts, taken-small, taken-step, may-resurvey, surveyed-part}
+use Rattle.pass.proofs.StepFacts.{known-names, may-survey, step-facts, taken-small, taken-step, may-resurvey, surveyed-part}
 use Rattle.step.proofs.Rests.{Running, running-none, running-next, moves-still, rests, moves}
 use Rattle.step.proofs.settle.Statement.{statement}
 use Rattle.step.proofs.settle.Tie as tie

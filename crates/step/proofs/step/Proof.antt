@@ -6,8 +6,7 @@ use native.Mathlib.Omega.{arith}
 use native.Mathlib.Nat.{mul-le-mul-right}
 use borrow.Author.Needs.{needs}
 use lib.ListN.{length, replicate, length-replicate, getD-replicate}
-use Rattle.table.specs.Facts.{RoomFor}
-use Rattle.lent.specs.Calls.{FactsRoom}
+use Rattle.table.specs.Facts.{RoomFor, FactsRoom}
 use Rattle.step.specs.WorkSpace.{RoomToStep}
 use Rattle.step.proofs.step.Statement.{statement}
 use Rattle.step.proofs.step.Tie as tie

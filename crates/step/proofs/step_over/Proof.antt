@@ -4,7 +4,7 @@ use mathlib.Core.Path.{_∙_}
 use native.Mathlib.Omega.{arith}
 use borrow.Author.Needs.{needs}
 use denote.Ref.{now}
-use Rattle.pass.proofs.Facts.{known-names, may-survey, step-facts, taken-small, taken-step}
+use Rattle.pass.proofs.StepFacts.{known-names, may-survey, step-facts, taken-small, taken-step}
 use Rattle.step.proofs.step_over.Statement.{statement}
 use Rattle.step.proofs.step_over.Tie as tie
 

@@ -49,8 +49,11 @@ rooms :
 rooms c =
     let room = c .before .before .before .before .before .before .pre .1 in
     let small = range (c .before) .1 in
-    let long = c .if1 .left in
-    (omega (arith, room .0 _ long small), omega (arith, room .1 _ long small), omega (arith, room .2 _ long small))
+    let long = c .if1 .left in (
+      omega (arith, room .ranks-room _ long small),
+      omega (arith, room .counts-room _ long small),
+      omega (arith, room .names-room _ long small),
+    )
 
 lowest-bad-parent-requires : tie.Need-lowest-bad-parent-requires
 lowest-bad-parent-requires c κs =
