@@ -30,59 +30,46 @@ one-answer e e′ = e ∙ sym e′
 abbrev pub OneAnswer : {K A Z E : Type 0} → (K → A → Z → E → Type 0) → Type 0
 OneAnswer Post = (κs : _) (a : _) (z z′ : _) (e e′ : _) → Post κs a z e → Post κs a z′ e′ → z ≡ z′
 
-pub to-byte-once : OneAnswer to-byte.Post
-to-byte-once κs a z z′ e e′ h h′ = one-answer h h′
+-- the functions of a plan's state
+pub states-once :
+    OneAnswer to-byte.Post × OneAnswer from-byte.Post × OneAnswer is-it.Post × OneAnswer in-selection.Post
+    × OneAnswer in-execution.Post × OneAnswer is-ended.Post
+states-once = (
+  λ κs a z z′ e e′ h h′. one-answer h h′,
+  λ κs a z z′ e e′ h h′. one-answer h h′,
+  λ κs a z z′ e e′ h h′. one-answer h h′,
+  λ κs a z z′ e e′ h h′. one-answer h h′,
+  λ κs a z z′ e e′ h h′. one-answer h h′,
+  λ κs a z z′ e e′ h h′. one-answer h h′,
+)
 
-pub from-byte-once : OneAnswer from-byte.Post
-from-byte-once κs a z z′ e e′ h h′ = one-answer h h′
+-- those of a body, a condition, a bit and an input word
+pub bodies-once :
+    OneAnswer is-leaf.Post × OneAnswer is-any-order.Post × OneAnswer bit.Post × OneAnswer is-set.Post
+    × OneAnswer pick-of.Post
+bodies-once = (
+  λ κs a z z′ e e′ h h′. one-answer h h′,
+  λ κs a z z′ e e′ h h′. one-answer h h′,
+  λ κs a z z′ e e′ h h′. one-answer (h .0) (h′ .0),
+  λ κs a z z′ e e′ h h′. one-answer h h′,
+  λ κs a z z′ e e′ h h′. one-answer (h .0) (h′ .0),
+)
 
-pub is-once : OneAnswer is-it.Post
-is-once κs a z z′ e e′ h h′ = one-answer h h′
+-- those of a plan's entry
+pub entries-once :
+    OneAnswer holds.Post × OneAnswer satisfiable.Post × OneAnswer body-kind.Post
+    × OneAnswer retries-aborted.Post × OneAnswer waits-for-optional.Post × OneAnswer is-named.Post
+    × OneAnswer wait-for.Post
+entries-once = (
+  λ κs a z z′ e e′ h h′. one-answer h h′,
+  λ κs a z z′ e e′ h h′. one-answer h h′,
+  λ κs a z z′ e e′ h h′. one-answer h h′,
+  λ κs a z z′ e e′ h h′. one-answer h h′,
+  λ κs a z z′ e e′ h h′. one-answer h h′,
+  λ κs a z z′ e e′ h h′. one-answer h h′,
+  λ κs a z z′ e e′ h h′. one-answer h h′,
+)
 
-pub in-selection-once : OneAnswer in-selection.Post
-in-selection-once κs a z z′ e e′ h h′ = one-answer h h′
-
-pub in-execution-once : OneAnswer in-execution.Post
-in-execution-once κs a z z′ e e′ h h′ = one-answer h h′
-
-pub is-ended-once : OneAnswer is-ended.Post
-is-ended-once κs a z z′ e e′ h h′ = one-answer h h′
-
-pub is-leaf-once : OneAnswer is-leaf.Post
-is-leaf-once κs a z z′ e e′ h h′ = one-answer h h′
-
-pub is-any-order-once : OneAnswer is-any-order.Post
-is-any-order-once κs a z z′ e e′ h h′ = one-answer h h′
-
-pub bit-once : OneAnswer bit.Post
-bit-once κs a z z′ e e′ h h′ = one-answer (h .0) (h′ .0)
-
-pub is-set-once : OneAnswer is-set.Post
-is-set-once κs a z z′ e e′ h h′ = one-answer h h′
-
-pub holds-once : OneAnswer holds.Post
-holds-once κs a z z′ e e′ h h′ = one-answer h h′
-
-pub satisfiable-once : OneAnswer satisfiable.Post
-satisfiable-once κs a z z′ e e′ h h′ = one-answer h h′
-
-pub body-kind-once : OneAnswer body-kind.Post
-body-kind-once κs a z z′ e e′ h h′ = one-answer h h′
-
-pub retries-aborted-once : OneAnswer retries-aborted.Post
-retries-aborted-once κs a z z′ e e′ h h′ = one-answer h h′
-
-pub waits-for-optional-once : OneAnswer waits-for-optional.Post
-waits-for-optional-once κs a z z′ e e′ h h′ = one-answer h h′
-
-pub is-named-once : OneAnswer is-named.Post
-is-named-once κs a z z′ e e′ h h′ = one-answer h h′
-
-pub wait-for-once : OneAnswer wait-for.Post
-wait-for-once κs a z z′ e e′ h h′ = one-answer h h′
-
+-- and that of a refusal
 pub place-once : OneAnswer placed.Post
 place-once κs a z z′ e e′ h h′ = one-answer h h′
-
-pub pick-of-once : OneAnswer pick-of.Post
-pick-of-once κs a z z′ e e′ h h′ = one-answer (h .0) (h′ .0)

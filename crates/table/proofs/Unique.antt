@@ -20,14 +20,14 @@ use Rattle.table.proofs.read_table.Reads as read-table
 use Rattle.table.proofs.check_table.Reads as check-table
 use Rattle.table.proofs.sub_tree.Reads as sub-tree
 
-pub has-mark-once : OneAnswer has-mark.Post
-has-mark-once κs a z z′ e e′ h h′ = one-answer h h′
-
-pub header-check-once : OneAnswer header-check.Post
-header-check-once κs a z z′ e e′ h h′ = one-answer h h′
-
-pub check-table-once : OneAnswer check-table.Post
-check-table-once κs a z z′ e e′ h h′ = one-answer h h′
+-- the functions that are lent nothing to write
+pub checks-once :
+    OneAnswer has-mark.Post × OneAnswer header-check.Post × OneAnswer check-table.Post
+checks-once = (
+  λ κs a z z′ e e′ h h′. one-answer h h′,
+  λ κs a z z′ e e′ h h′. one-answer h h′,
+  λ κs a z z′ e e′ h h′. one-answer h h′,
+)
 
 -- of the part that is handed back, its bytes
 pub sub-tree-once :
