@@ -1,5 +1,6 @@
--- One answer: any two that the contract of `step` or of `rest` permits are equal, and so are the states that they leave. The contract is taken as Rattle reads it: `Post κs a z e`, of the lifetimes, the arguments, the answer and the
--- parameters at exit, arguments and parameters in the order of the declaration. Assumes nothing.
+-- One answer: any two that the contract of `step` or of `rest` permits are equal, and so are the states that they leave. The contract
+-- is taken as Rattle reads it: `Post κs a z e`, of the lifetimes, the arguments, the answer and the parameters at exit, arguments and
+-- parameters in the order of the declaration. Assumes nothing.
 use mathlib.Core.Path.{_≡_}
 use contract.Lifetimes.{Lfts}
 use denote.Ref.{now}
