@@ -10,7 +10,7 @@ use Rattle.aprcheck.proofs.answer.Reads as answer
 use Rattle.aprcheck.proofs.report.Reads as report
 
 pub answer-once : OneAnswer answer.Post
-answer-once κs a z z′ e e′ h h′ = answered-once (now (a .0)) h h′
+answer-once = record { once = λ κs a z z′ e e′ h h′. answered-once (now (a .0)) h h′ }
 
 pub report-once :
     (κs : Lfts 2) (a : _) (z z′ : _) (e e′ : _) → report.Post κs a z e → report.Post κs a z′ e′

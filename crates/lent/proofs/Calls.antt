@@ -78,19 +78,13 @@ module _ (t s w : List ℕ) (n : ℕ) (whole : n ≡ planCount t) where
     stops-at-state p lowest l = pass _ _ _ (rw whole at agree) ∙ stop-at _ _ _ p (found-at t n whole _ p lowest l)
 
     module _ (r : ℕ) (states : Lowest (badState t s) n r) (none : n ≤ r) (p : ℕ) (lowest : Lowest (badWord t w) n p) where
-      pub stops-at-word : p < n → lentCheck t s w ≡ Refused (Word 0 p)
+      pub by-words : (p < n → lentCheck t s w ≡ Refused (Word 0 p)) × (n ≤ p → lentCheck t s w ≡ Done)
       unfolding lentCheck
-      stops-at-word l =
-          pass _ _ _ (rw whole at agree)
-          ∙ pass-at _ _ _ (found-none t n whole _ r states none)
-          ∙ stop-at-last _ _ p (found-at t n whole _ p lowest l)
-
-      pub lent-done : n ≤ p → lentCheck t s w ≡ Done
-      unfolding lentCheck
-      lent-done l =
-          pass _ _ _ (rw whole at agree)
-          ∙ pass-at _ _ _ (found-none t n whole _ r states none)
-          ∙ pass-at-last _ _ (found-none t n whole _ p lowest l)
+      by-words =
+          let left = pass _ _ _ (rw whole at agree) ∙ pass-at _ _ _ (found-none t n whole _ r states none) in (
+            λ l. left ∙ stop-at-last _ _ p (found-at t n whole _ p lowest l),
+            λ l. left ∙ pass-at-last _ _ (found-none t n whole _ p lowest l),
+          )
 
 -- A call that passes: its table, what is lent with it, and of that the lengths and the states.
 module _ (t s w : List ℕ) (done : callCheck t s w ≡ Done) where

@@ -6,16 +6,16 @@ use denote.Ref.{now}
 use Rattle.rules.specs.Answers.{callCheck}
 use Rattle.rules.specs.declared.Outcome.{Outcome}
 use Rattle.rules.specs.declared.Outcome.the-variants.{Done}
-use Rattle.rules.proofs.Unique.{one-answer, OneAnswer}
+use Rattle.rules.proofs.Unique.{one-answer, OneAnswer, by-equation}
 use Rattle.table.proofs.Unique.{SameFacts, facts-once}
 use Rattle.lent.proofs.check_call.Reads as check-call
 use Rattle.lent.proofs.wrong_word_if.Reads as wrong-word-if
 
 pub wrong-word-if-once : OneAnswer wrong-word-if.Post
-wrong-word-if-once κs a z z′ e e′ h h′ = one-answer h h′
+wrong-word-if-once = by-equation
 
 pub check-call-once : OneAnswer check-call.Post
-check-call-once κs a z z′ e e′ h h′ = one-answer (h .is) (h′ .is)
+check-call-once = record { once = λ κs a z z′ e e′ h h′. one-answer (h .is) (h′ .is) }
 
 pub check-call-facts-once :
     (κs : Lfts 6) (a : _) (z z′ : Outcome) (e e′ : _) → check-call.Post κs a z e → check-call.Post κs a z′ e′

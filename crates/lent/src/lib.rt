@@ -113,17 +113,15 @@ fn child_suits(parent: PlanState, child: PlanState) -> bool
     ensures { λ r. ⌜ r ≡ suits parent child ⌝ }
 {
     let idle = child.is(PlanState::Inactive);
-    let active = child.is(PlanState::Activated);
-    let over = child.is_ended();
     match parent {
         PlanState::Inactive => idle,
         PlanState::Considered => idle,
         PlanState::Possible => idle,
         PlanState::Ready => idle,
         PlanState::Activated => true,
-        PlanState::Suspended => !active,
-        PlanState::Completed => idle | over,
-        PlanState::Aborted => idle | over,
+        PlanState::Suspended => !child.is(PlanState::Activated),
+        PlanState::Completed => idle | child.is_ended(),
+        PlanState::Aborted => idle | child.is_ended(),
         PlanState::Rejected => idle,
     }
 }

@@ -53,7 +53,7 @@ use Rattle.children.proofs.Sets.{
 }
 use Rattle.rules.specs.Demands.{SubPlan}
 use Rattle.moves.specs.ChildWords.{ChildWords}
-use Rattle.moves.specs.Tells.{OwnEntry}
+use Rattle.moves.specs.Tells.{OwnEntry, InStates}
 
 -- Tests of a state, and of all in a list.
 
@@ -108,10 +108,6 @@ waits :
     → w ≡ setOf t q (λ c. named (entry t c) && f c) → enough e (ones w) ≡ waitFor t q f
 waits t q e w f ee ew =
     ap₂ (λ (e : PlanEntry) (k : ℕ). enough e k) ee (ap ones ew ∙ set-ones t q (λ c. named (entry t c) && f c))
-
--- w is the word of q's children that are in one of the states ys
-pub record InStates (t s : List ℕ) (q : ℕ) (ys : List PlanState) (w : ℕ) : Type 0 where
-  pub word : w ≡ setOf t q (λ c. oneOf ys (stateAt s c))
 
 module _ {t s : List ℕ} {q : ℕ} where
   -- the words that the code reads, and their unions

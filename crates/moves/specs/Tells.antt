@@ -6,7 +6,7 @@ use mathlib.Core.Bool.{Bool, _&&_}
 use mathlib.Core.List.{List}
 use lib.Dec.{eqb}
 use Rattle.rules.specs.Lists.{all}
-use Rattle.rules.specs.States.{stateAt, is, inExecution, ended}
+use Rattle.rules.specs.States.{stateAt, oneOf, is, ended}
 use Rattle.rules.specs.Table.{entry, named, retryAborted, children, rank}
 use Rattle.rules.specs.Demands.{SubPlan}
 use Rattle.rules.specs.Step.{
@@ -26,11 +26,16 @@ use Rattle.rules.specs.declared.PlanState.{PlanState}
 use Rattle.rules.specs.declared.PlanState.the-variants.{Suspended}
 use Rattle.children.specs.Sets.{setOf}
 use Rattle.moves.specs.ChildWords.{ChildWords}
+use Rattle.moves.specs.declared.Told.{Told}
 
 -- e is the entry of plan q, and names the word of its named children
 pub record OwnEntry (t : List ℕ) (q : ℕ) (e : PlanEntry) (names : ℕ) : Type 0 where
   pub is : e ≡ entry t q
   pub collected : names ≡ setOf t q (λ c. named (entry t c))
+
+-- w is the word of q's children that are in one of the states ys
+pub record InStates (t s : List ℕ) (q : ℕ) (ys : List PlanState) (w : ℕ) : Type 0 where
+  pub word : w ≡ setOf t q (λ c. oneOf ys (stateAt s c))
 
 -- p is a child of q, r its rank
 pub record RankedChild (t : List ℕ) (q p r : ℕ) : Type 0 where
@@ -75,6 +80,10 @@ module _ (sets : List ℕ) (q : ℕ) where
       (t s w : List ℕ) (choice : ℕ → ℕ) (p : ℕ) → ChildWords t s q sets → RankedChild t q p k → e ≡ entry t q
       → isChosen ≡ eqb p (choice q) → r ≡ ordersIf t s w choice before after q p
 
+  -- the word of the children that are in one of a few states
+  abbrev pub TellsWord : List PlanState → ℕ → Type 0
+  TellsWord ys r = (t s : List ℕ) → ChildWords t s q sets → InStates t s q ys r
+
   -- whether all children are ended
   abbrev pub TellsAllEnded : Bool → Type 0
   TellsAllEnded r = (t s : List ℕ) → ChildWords t s q sets → r ≡ all (λ c. ended (stateAt s c)) (children t q)
@@ -86,14 +95,11 @@ module _ (sets : List ℕ) (q : ℕ) where
   abbrev pub TellsComplete : PlanEntry → ℕ → Bool → Type 0
   TellsComplete e names r = (t s : List ℕ) → ChildWords t s q sets → OwnEntry t q e names → r ≡ childrenComplete t s q
 
-  -- the same where it counts: of a plan in execution
-  abbrev pub TellsLostIf : Bool → PlanEntry → ℕ → Bool → Type 0
-  TellsLostIf executing e names r =
-      (t s : List ℕ) → ChildWords t s q sets → OwnEntry t q e names → r ≡ (executing && tooManyLost t s q)
-
-  abbrev pub TellsCompleteIf : Bool → PlanEntry → ℕ → Bool → Type 0
-  TellsCompleteIf executing e names r =
-      (t s : List ℕ) → ChildWords t s q sets → OwnEntry t q e names → r ≡ (executing && childrenComplete t s q)
+  -- both where they count: of a plan in execution
+  abbrev pub TellsIf : Bool → PlanEntry → ℕ → Told → Type 0
+  TellsIf executing e names r =
+      (t s : List ℕ) → ChildWords t s q sets → OwnEntry t q e names
+      → (r .lost ≡ (executing && tooManyLost t s q)) × (r .complete ≡ (executing && childrenComplete t s q))
 
   -- the move of q under a parent in execution, by its orders, word and old state and by what its children say
   abbrev pub TellsMove : PlanEntry → ℕ → Orders → ℕ → PlanState → PlanState → PlanState → Type 0

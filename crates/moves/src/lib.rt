@@ -5,14 +5,15 @@ ghost use mathlib.Core.Bool.{cond, _||_};
 ghost use Prim.Native.Nat.{ℕ, _+_, _*_, _<_, _≤_};
 ghost use lib.ListN.{length, getD};
 ghost use lib.Dec.{eqb};
-ghost use mathlib.Core.List.{List};
+ghost use mathlib.Core.List.{List, [], _∷_};
 ghost use Rattle.rules.specs.States.{code, stateAt};
 ghost use Rattle.rules.specs.Table.{planCount, parent};
+ghost use Rattle.rules.specs.declared.PlanState.the-variants.{Inactive, Considered, Possible, Activated, Suspended};
 ghost use Rattle.rules.specs.Step.{moveOn, cutOff, none, rootOrders, ordersOf, newState};
 ghost use Rattle.rules.specs.Step.{chosen as Step·chosen};
 ghost use Rattle.moves.specs.ChildWords.{HasWords};
 ghost use Rattle.moves.specs.Tells.{TellsFirstNotDone, TellsGate, TellsMayActivate, TellsChosenRank, TellsPicked, TellsOrders};
-ghost use Rattle.moves.specs.Tells.{TellsOrdersIf, TellsAllEnded, TellsLost, TellsComplete, TellsLostIf, TellsCompleteIf, TellsMove};
+ghost use Rattle.moves.specs.Tells.{TellsOrdersIf, TellsAllEnded, TellsLost, TellsComplete, TellsIf, TellsMove, TellsWord};
 ghost use Rattle.moves.specs.Parents.{parentState, ordersAt, takesOrders, byParent};
 ghost use Rattle.moves.specs.StepFacts.{picksOf, StepFacts, Names};
 use reading::entry_at;
@@ -102,16 +103,14 @@ fn moved(
     requires { ⌜ HasWords (now sets) p ⌝ }
     ensures { λ r. ⌜ TellsMove (now (sets .entry)) p e names o x state after r ⌝ }
 {
-    let executing = state.in_execution();
-    let lost = lost_if(executing, e, names, sets, p);
-    let complete = complete_if(executing, e, names, sets, p);
+    let told = told_if(state.in_execution(), e, names, sets, p);
     moved_on(
         after.is(PlanState::Suspended),
         o,
         e,
         x,
-        lost,
-        complete,
+        told.lost,
+        told.complete,
         state,
     )
 }
@@ -210,26 +209,27 @@ fn cut_off(old: PlanState) -> PlanState
     }
 }
 
-// Whether too many children are lost, where that counts: a plan that is not in execution does not look at its children.
-fn lost_if(executing: bool, e: PlanEntry, names: u64, sets: &[u64], p: usize) -> bool
-    requires { ⌜ HasWords (now sets) p ⌝ }
-    ensures { λ r. ⌜ TellsLostIf (now (sets .entry)) p executing e names r ⌝ }
-{
-    if !executing {
-        return false;
-    }
-    too_many_lost(e, names, sets, p)
+// What a plan is told by its children: that too many are lost, that they let it complete.
+struct Told {
+    lost: bool,
+    complete: bool,
 }
 
-// Whether the children let it complete, where that counts.
-fn complete_if(executing: bool, e: PlanEntry, names: u64, sets: &[u64], p: usize) -> bool
+// What the children tell, where that counts: a plan that is not in execution does not look at them.
+fn told_if(executing: bool, e: PlanEntry, names: u64, sets: &[u64], p: usize) -> Told
     requires { ⌜ HasWords (now sets) p ⌝ }
-    ensures { λ r. ⌜ TellsCompleteIf (now (sets .entry)) p executing e names r ⌝ }
+    ensures { λ r. ⌜ TellsIf (now (sets .entry)) p executing e names r ⌝ }
 {
     if !executing {
-        return false;
+        return Told {
+            lost: false,
+            complete: false,
+        };
     }
-    children_complete(e, names, sets, p)
+    Told {
+        lost: too_many_lost(e, names, sets, p),
+        complete: children_complete(e, names, sets, p),
+    }
 }
 
 // Whether too many children of plan p, whose entry is e, are lost.
@@ -261,13 +261,8 @@ fn all_ended(sets: &[u64], p: usize) -> bool
     requires { ⌜ HasWords (now sets) p ⌝ }
     ensures { λ r. ⌜ TellsAllEnded (now (sets .entry)) p r ⌝ }
 {
-    let waiting = in_state(sets, p, PlanState::Inactive)
-        | in_state(sets, p, PlanState::Considered)
-        | in_state(sets, p, PlanState::Possible);
-    let begun = in_state(sets, p, PlanState::Ready)
-        | in_state(sets, p, PlanState::Activated)
-        | in_state(sets, p, PlanState::Suspended);
-    (waiting | begun) == 0
+    let ready = in_state(sets, p, PlanState::Ready);
+    (before_ready(sets, p) | (ready | running(sets, p))) == 0
 }
 
 // Whether a plan in a state moves by orders: it is Inactive, Ready or Aborted.
@@ -434,12 +429,8 @@ fn gate_open(sets: &[u64], q: usize) -> bool
     requires { ⌜ HasWords (now sets) q ⌝ }
     ensures { λ r. ⌜ TellsGate (now (sets .entry)) q r ⌝ }
 {
-    let waiting = in_state(sets, q, PlanState::Inactive)
-        | in_state(sets, q, PlanState::Considered)
-        | in_state(sets, q, PlanState::Possible);
-    let running = in_state(sets, q, PlanState::Activated) | in_state(sets, q, PlanState::Suspended);
     let over = in_state(sets, q, PlanState::Completed) | in_state(sets, q, PlanState::Aborted);
-    (waiting == 0) | ((running | over) != 0)
+    (before_ready(sets, q) == 0) | ((running(sets, q) | over) != 0)
 }
 
 // Whether an any-order plan q may activate a child.
@@ -447,9 +438,26 @@ fn may_activate(sets: &[u64], q: usize, again: bool) -> bool
     requires { ⌜ HasWords (now sets) q ⌝ }
     ensures { λ r. ⌜ TellsMayActivate (now (sets .entry)) q again r ⌝ }
 {
-    let running = in_state(sets, q, PlanState::Activated) | in_state(sets, q, PlanState::Suspended);
     let aborted = in_state(sets, q, PlanState::Aborted);
-    (running == 0) & !(again & (aborted != 0))
+    (running(sets, q) == 0) & !(again & (aborted != 0))
+}
+
+// The children of plan q that have not come to be Ready, as a word.
+fn before_ready(sets: &[u64], q: usize) -> u64
+    requires { ⌜ HasWords (now sets) q ⌝ }
+    ensures { λ r. ⌜ TellsWord (now (sets .entry)) q (Inactive ∷ Considered ∷ Possible ∷ []) r ⌝ }
+{
+    in_state(sets, q, PlanState::Inactive)
+        | in_state(sets, q, PlanState::Considered)
+        | in_state(sets, q, PlanState::Possible)
+}
+
+// The children of plan q in execution, as a word.
+fn running(sets: &[u64], q: usize) -> u64
+    requires { ⌜ HasWords (now sets) q ⌝ }
+    ensures { λ r. ⌜ TellsWord (now (sets .entry)) q (Activated ∷ Suspended ∷ []) r ⌝ }
+{
+    in_state(sets, q, PlanState::Activated) | in_state(sets, q, PlanState::Suspended)
 }
 
 // The children of plan q in a state, as a word.

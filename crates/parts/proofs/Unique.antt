@@ -42,7 +42,7 @@ states-before-once κs a z z′ e e′ h h′ =
     one-answer (h (of-plans n) (has-plans n)) (h′ (of-plans n) (has-plans n))
 
 pub lowest-wrong-word-once : OneAnswer lowest-wrong-word.Post
-lowest-wrong-word-once κs a z z′ e e′ h h′ = lowest-once (badRecordWord (now (a .0))) (a .1 .0) z z′ h h′
+lowest-wrong-word-once = record { once = λ κs a z z′ e e′ h h′. lowest-once (badRecordWord (now (a .0))) (a .1 .0) z z′ h h′ }
 
 pub find-picks-once :
     (κs : Lfts 6) (a : _) (z z′ : _) (e e′ : _) → find-picks.Post κs a z e → find-picks.Post κs a z′ e′

@@ -9,7 +9,7 @@ use contract.Lifetimes.{Lfts}
 use denote.Ref.{now}
 use lib.ListN.{getD}
 use lib.Seq.{getD-take}
-use Rattle.rules.proofs.Unique.{one-answer, OneAnswer}
+use Rattle.rules.proofs.Unique.{one-answer, OneAnswer, by-equation}
 use Rattle.children.proofs.Unique.{written-once}
 use Rattle.pass.proofs.advance.Reads as advance
 use Rattle.pass.proofs.take_picks.Reads as take-picks
@@ -17,7 +17,7 @@ use Rattle.pass.proofs.take_over.Reads as take-over
 use Rattle.pass.proofs.unchanged.Reads as unchanged
 
 pub unchanged-once : OneAnswer unchanged.Post
-unchanged-once κs a z z′ e e′ h h′ = one-answer h h′
+unchanged-once = by-equation
 
 pub take-over-once :
     (κs : Lfts 2) (a : _) (z z′ : _) (e e′ : _) → take-over.Post κs a z e → take-over.Post κs a z′ e′

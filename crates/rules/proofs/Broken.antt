@@ -11,6 +11,7 @@ use lib.Dec.{T, eqb}
 use borrow.Author.Tests.{eq-eqb}
 use Rattle.rules.specs.States.{code, stateAt, ended}
 use Rattle.rules.specs.declared.PlanState.{PlanState}
+use Rattle.rules.specs.declared.PlanState.the-variants.{Considered, Aborted}
 use Rattle.rules.specs.Table.{isOrIsAbove, childrenBefore, children}
 use Rattle.rules.specs.Record.{Explained}
 use Rattle.rules.specs.Demands.{SubPlan, Retried, AtMostOne, OnlyWhileParent, EndingsKept}
@@ -21,7 +22,10 @@ abbrev pair : ℕ → List ℕ
 pair body = T1Of body 0 0 2 0x20
 
 -- states with different codes are not the same
-differ : {x y : PlanState} → x ≡ y → eqb (code x) (code y) ≡ false → ⊥
+abbrev unlike : PlanState → PlanState → Type 0
+unlike x y = eqb (code x) (code y) ≡ false
+
+differ : {x y : PlanState} → x ≡ y → unlike x y → ⊥
 differ {x} {y} same different = true≢false (sym (eq-eqb (code x) (code y) (ap code same)) ∙ different)
 
 child-1 : (body : ℕ) → SubPlan (pair body) 0 1
@@ -55,8 +59,8 @@ module _ (body before after p : ℕ) (within : p < 3) where
       T (ended (stateAt (states before) p)) → (stateAt (states after) p ≡ stateAt (states before) p → ⊥) → (RetriedFor 0 → ⊥)
       → (RetriedFor 1 → ⊥) → (RetriedFor 2 → ⊥) → EndingsKept (pair body) (states before) (states after) → ⊥
   unfolding T1Of states stateAt
-  loses over unlike not-0 not-1 not-2 rule =
-      ⊎-elim unlike (λ found. nobody (found .0) (found .1)) (rule p (omega arith) over)
+  loses over changed not-0 not-1 not-2 rule =
+      ⊎-elim changed (λ found. nobody (found .0) (found .1)) (rule p (omega arith) over)
     where
       nobody : (a : ℕ) → RetriedFor a → ⊥
       nobody zero r = not-0 r
@@ -65,18 +69,24 @@ module _ (body before after p : ℕ) (within : p < 3) where
       nobody (suc (suc (suc a))) r = differ (r .was) refl
 
 module _ (body : ℕ) where
-  -- a Completed plan, or a Rejected one, that is considered again: it was not Aborted
+  -- plan 1 that is considered again, though none of the three was Aborted
+  unaborted :
+      (before : ℕ) → T (ended (stateAt (states before) 1)) → unlike Considered (stateAt (states before) 1)
+      → unlike (stateAt (states before) 0) Aborted → unlike (stateAt (states before) 1) Aborted
+      → unlike (stateAt (states before) 2) Aborted → EndingsKept (pair body) (states before) (states 413) → ⊥
+  unfolding T1Of states stateAt
+  unaborted before over new was-0 was-1 was-2 =
+      loses body before 413 1 (omega arith) over (λ e. differ e new) (λ r. differ (r .was) was-0) (λ r. differ (r .was) was-1)
+      (λ r. differ (r .was) was-2)
+
+  -- so a Completed plan, and a Rejected one
   pub completed-again : EndingsKept (pair body) (states 463) (states 413) → ⊥
   unfolding T1Of states stateAt
-  completed-again =
-      loses body 463 413 1 (omega arith) tt (λ e. differ e refl) (λ r. differ (r .was) refl) (λ r. differ (r .was) refl)
-      (λ r. differ (r .was) refl)
+  completed-again = unaborted 463 tt refl refl refl refl
 
   pub rejected-again : EndingsKept (pair body) (states 483) (states 413) → ⊥
   unfolding T1Of states stateAt
-  rejected-again =
-      loses body 483 413 1 (omega arith) tt (λ e. differ e refl) (λ r. differ (r .was) refl) (λ r. differ (r .was) refl)
-      (λ r. differ (r .was) refl)
+  rejected-again = unaborted 483 tt refl refl refl refl
 
   -- an Aborted plan that goes on at once: it is not shown Considered
   pub aborted-goes-on : EndingsKept (pair body) (states 473) (states 443) → ⊥

@@ -3,13 +3,13 @@ use Prim.Native.Nat.{ℕ, zero, suc, _<_}
 use native.Mathlib.Decide.{decLt}
 use native.Mathlib.Omega.{arith}
 use mathlib.Core.Path.{_≡_, refl, sym, ap, _∙_}
-use mathlib.Core.Bool.{false, _&&_, or-false}
+use mathlib.Core.Bool.{Bool, false, _&&_, or-false}
 use mathlib.Core.List.{List}
 use lib.Dec.{eqb, leb}
 use lib.ListN.{List·getD-eq-default}
 use borrow.Author.Tests.{ne-eqb}
 use Rattle.rules.specs.Bytes.{byteAt}
-use Rattle.rules.specs.States.{code, byCode, stateOf, stateAt, is, inSelection, inExecution}
+use Rattle.rules.specs.States.{code, byCode, stateOf, stateAt, is, inSelection, inExecution, ended}
 use Rattle.rules.specs.declared.PlanState.{PlanState}
 use Rattle.rules.specs.declared.PlanState.the-variants.{
   Inactive,
@@ -28,27 +28,22 @@ unfolding stateAt
 state-is s p = refl
 
 -- the groups, by the first and the last code of each
-pub selection-test : (state : PlanState) → (leb (code Considered) (code state) && leb (code state) (code Ready)) ≡ inSelection state
-selection-test Inactive = refl
-selection-test Considered = refl
-selection-test Possible = refl
-selection-test Ready = refl
-selection-test Activated = refl
-selection-test Suspended = refl
-selection-test Completed = refl
-selection-test Aborted = refl
-selection-test Rejected = refl
+abbrev pub fromTo : PlanState → PlanState → ℕ → Bool
+fromTo low high b = leb (code low) b && leb b (code high)
 
-pub execution-test : (state : PlanState) → (leb (code Activated) (code state) && leb (code state) (code Suspended)) ≡ inExecution state
-execution-test Inactive = refl
-execution-test Considered = refl
-execution-test Possible = refl
-execution-test Ready = refl
-execution-test Activated = refl
-execution-test Suspended = refl
-execution-test Completed = refl
-execution-test Aborted = refl
-execution-test Rejected = refl
+pub groups :
+    (state : PlanState)
+    → (fromTo Considered Ready (code state) ≡ inSelection state) × (fromTo Activated Suspended (code state) ≡ inExecution state)
+    × (fromTo Completed Rejected (code state) ≡ ended state)
+groups Inactive = (refl, refl, refl)
+groups Considered = (refl, refl, refl)
+groups Possible = (refl, refl, refl)
+groups Ready = (refl, refl, refl)
+groups Activated = (refl, refl, refl)
+groups Suspended = (refl, refl, refl)
+groups Completed = (refl, refl, refl)
+groups Aborted = (refl, refl, refl)
+groups Rejected = (refl, refl, refl)
 
 -- there are nine codes
 pub code-lt : (state : PlanState) → code state < 9

@@ -27,32 +27,30 @@ pub one-answer {ℓ} : {A : Type ℓ} {definition r r′ : A} → r ≡ definiti
 one-answer e e′ = e ∙ sym e′
 
 -- any two permitted answers of a function that is lent nothing to write are equal
-abbrev pub OneAnswer : {K A Z E : Type 0} → (K → A → Z → E → Type 0) → Type 0
-OneAnswer Post = (κs : _) (a : _) (z z′ : _) (e e′ : _) → Post κs a z e → Post κs a z′ e′ → z ≡ z′
+pub record OneAnswer {K A Z E : Type 0} (Post : K → A → Z → E → Type 0) : Type 0 where
+  pub once : (κs : K) (a : A) (z z′ : Z) (e e′ : E) → Post κs a z e → Post κs a z′ e′ → z ≡ z′
+
+-- so they are where the contract equates the answer to a definition
+pub by-equation :
+    {K A Z E : Type 0} {definition : K → A → Z} → OneAnswer (λ (κs : K) (a : A) (z : Z) (e : E). z ≡ definition κs a)
+by-equation = record { once = λ κs a z z′ e e′ h h′. one-answer h h′ }
 
 -- the functions of a plan's state
 pub states-once :
     OneAnswer to-byte.Post × OneAnswer from-byte.Post × OneAnswer is-it.Post × OneAnswer in-selection.Post
     × OneAnswer in-execution.Post × OneAnswer is-ended.Post
-states-once = (
-  λ κs a z z′ e e′ h h′. one-answer h h′,
-  λ κs a z z′ e e′ h h′. one-answer h h′,
-  λ κs a z z′ e e′ h h′. one-answer h h′,
-  λ κs a z z′ e e′ h h′. one-answer h h′,
-  λ κs a z z′ e e′ h h′. one-answer h h′,
-  λ κs a z z′ e e′ h h′. one-answer h h′,
-)
+states-once = (by-equation, by-equation, by-equation, by-equation, by-equation, by-equation)
 
 -- those of a body, a condition, a bit and an input word
 pub bodies-once :
     OneAnswer is-leaf.Post × OneAnswer is-any-order.Post × OneAnswer bit.Post × OneAnswer is-set.Post
     × OneAnswer pick-of.Post
 bodies-once = (
-  λ κs a z z′ e e′ h h′. one-answer h h′,
-  λ κs a z z′ e e′ h h′. one-answer h h′,
-  λ κs a z z′ e e′ h h′. one-answer (h .0) (h′ .0),
-  λ κs a z z′ e e′ h h′. one-answer h h′,
-  λ κs a z z′ e e′ h h′. one-answer (h .0) (h′ .0),
+  by-equation,
+  by-equation,
+  record { once = λ κs a z z′ e e′ h h′. one-answer (h .0) (h′ .0) },
+  by-equation,
+  record { once = λ κs a z z′ e e′ h h′. one-answer (h .0) (h′ .0) },
 )
 
 -- those of a plan's entry
@@ -60,16 +58,13 @@ pub entries-once :
     OneAnswer holds.Post × OneAnswer satisfiable.Post × OneAnswer body-kind.Post
     × OneAnswer retries-aborted.Post × OneAnswer waits-for-optional.Post × OneAnswer is-named.Post
     × OneAnswer wait-for.Post
-entries-once = (
-  λ κs a z z′ e e′ h h′. one-answer h h′,
-  λ κs a z z′ e e′ h h′. one-answer h h′,
-  λ κs a z z′ e e′ h h′. one-answer h h′,
-  λ κs a z z′ e e′ h h′. one-answer h h′,
-  λ κs a z z′ e e′ h h′. one-answer h h′,
-  λ κs a z z′ e e′ h h′. one-answer h h′,
-  λ κs a z z′ e e′ h h′. one-answer h h′,
-)
+entries-once = (by-equation, by-equation, by-equation, by-equation, by-equation, by-equation, by-equation)
 
 -- and that of a refusal
 pub place-once : OneAnswer placed.Post
-place-once κs a z z′ e e′ h h′ = one-answer h h′
+place-once = by-equation
+
+-- the same of a function that is lent something to write: its answers are one, and so is what it leaves there
+abbrev pub OneAnswerLeaving : {K A Z E L : Type 0} → (K → A → Z → E → Type 0) → (E → L) → Type 0
+OneAnswerLeaving Post left =
+    (κs : _) (a : _) (z z′ : _) (e e′ : _) → Post κs a z e → Post κs a z′ e′ → (z ≡ z′) × (left e ≡ left e′)

@@ -103,17 +103,8 @@ impl PlanState {
     pub fn is_ended(self) -> bool
         ensures { λ r. ⌜ r ≡ ended self ⌝ }
     {
-        match self {
-            PlanState::Inactive => false,
-            PlanState::Considered => false,
-            PlanState::Possible => false,
-            PlanState::Ready => false,
-            PlanState::Activated => false,
-            PlanState::Suspended => false,
-            PlanState::Completed => true,
-            PlanState::Aborted => true,
-            PlanState::Rejected => true,
-        }
+        let b = self.to_byte();
+        (PlanState::COMPLETED <= b) & (b <= PlanState::REJECTED)
     }
 }
 

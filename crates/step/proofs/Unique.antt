@@ -1,21 +1,13 @@
 -- One answer: any two that the contract of `step` or of `rest` permits are equal, and so are the states that they leave. The contract
 -- is taken as Rattle reads it: `Post κs a z e`, of the lifetimes, the arguments, the answer and the parameters at exit, arguments and
 -- parameters in the order of the declaration. Assumes nothing.
-use mathlib.Core.Path.{_≡_}
-use contract.Lifetimes.{Lfts}
 use denote.Ref.{now}
-use Rattle.rules.specs.declared.Outcome.{Outcome}
-use Rattle.rules.specs.declared.Rest.{Rest}
-use Rattle.rules.proofs.Unique.{one-answer}
+use Rattle.rules.proofs.Unique.{one-answer, OneAnswerLeaving}
 use Rattle.step.proofs.step.Reads as step
 use Rattle.step.proofs.rest.Reads as rest
 
-pub step-once :
-    (κs : Lfts 3) (a : _) (z z′ : Outcome) (e e′ : _) → step.Post κs a z e → step.Post κs a z′ e′
-    → (z ≡ z′) × (now (e .1 .0) ≡ now (e′ .1 .0))
+pub step-once : OneAnswerLeaving step.Post (λ e. now (e .1 .0))
 step-once κs a z z′ e e′ h h′ = (one-answer (h .0) (h′ .0), one-answer (h .1) (h′ .1))
 
-pub rest-once :
-    (κs : Lfts 3) (a : _) (z z′ : Rest) (e e′ : _) → rest.Post κs a z e → rest.Post κs a z′ e′
-    → (z ≡ z′) × (now (e .1 .0) ≡ now (e′ .1 .0))
+pub rest-once : OneAnswerLeaving rest.Post (λ e. now (e .1 .0))
 rest-once κs a z z′ e e′ h h′ = (one-answer (h .0) (h′ .0), one-answer (h .1) (h′ .1))

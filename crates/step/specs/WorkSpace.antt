@@ -12,9 +12,8 @@ pub record StepRoom (n : ℕ) (sets picks new : List ℕ) : Type 0 where
   pub new-room : n ≤ length new
   pub empty : Empty (n * 9) sets
 
--- the same for every table of this length
-pub record RoomToStep (t sets picks new : List ℕ) : Type 0 where
+-- what the checks leave to be lent of it, for every table of this length
+pub record RoomToStep (t sets new : List ℕ) : Type 0 where
   pub sets-room : RoomFor t 9 sets
-  pub picks-room : RoomFor t 1 picks
   pub new-room : RoomFor t 1 new
   pub empty : Empty (length sets) sets

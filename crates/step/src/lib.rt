@@ -30,7 +30,6 @@ pub fn step(table: &[u8], states: &mut [u8], words: &[u8]) -> Outcome
         let mut counts = [0u8; 16];
         let mut names = [0u64; 16];
         let mut sets = [0u64; 144];
-        let mut picks = [0u8; 16];
         let mut new = [0u8; 16];
         return step_within(
             table,
@@ -40,7 +39,6 @@ pub fn step(table: &[u8], states: &mut [u8], words: &[u8]) -> Outcome
             &mut counts,
             &mut names,
             &mut sets,
-            &mut picks,
             &mut new,
         );
     }
@@ -49,7 +47,6 @@ pub fn step(table: &[u8], states: &mut [u8], words: &[u8]) -> Outcome
         let mut counts = [0u8; 64];
         let mut names = [0u64; 64];
         let mut sets = [0u64; 576];
-        let mut picks = [0u8; 64];
         let mut new = [0u8; 64];
         return step_within(
             table,
@@ -59,7 +56,6 @@ pub fn step(table: &[u8], states: &mut [u8], words: &[u8]) -> Outcome
             &mut counts,
             &mut names,
             &mut sets,
-            &mut picks,
             &mut new,
         );
     }
@@ -67,7 +63,6 @@ pub fn step(table: &[u8], states: &mut [u8], words: &[u8]) -> Outcome
     let mut counts = [0u8; 256];
     let mut names = [0u64; 256];
     let mut sets = [0u64; 2304];
-    let mut picks = [0u8; 256];
     let mut new = [0u8; 256];
     step_within(
         table,
@@ -77,7 +72,6 @@ pub fn step(table: &[u8], states: &mut [u8], words: &[u8]) -> Outcome
         &mut counts,
         &mut names,
         &mut sets,
-        &mut picks,
         &mut new,
     )
 }
@@ -105,18 +99,18 @@ fn step_within(
     counts: &mut [u8],
     names: &mut [u64],
     sets: &mut [u64],
-    picks: &mut [u8],
     new: &mut [u8],
 ) -> Outcome
     requires facts { ⌜ FactsRoom (now table) (now ranks) (now counts) (now names) ⌝ }
-    requires room { ⌜ RoomToStep (now table) (now sets) (now picks) (now new) ⌝ }
+    requires room { ⌜ RoomToStep (now table) (now sets) (now new) ⌝ }
     ensures answer { λ r. ⌜ r ≡ stepAnswer (now (table .entry)) (now (states .entry)) (now (words .entry)) ⌝ }
     ensures left { λ _. ⌜ now (states .exit) ≡ stepStates (now (table .entry)) (now (states .entry)) (now (words .entry)) ⌝ }
 {
     match check_call(table, states, words, ranks, counts, names) {
         Outcome::Refused(why) => Outcome::Refused(why),
         Outcome::Done => {
-            step_over(table, ranks, names, states, words, sets, picks, new);
+            // the numbers of children are done with: their room is the picks'
+            step_over(table, ranks, names, states, words, sets, counts, new);
             Outcome::Done
         }
     }

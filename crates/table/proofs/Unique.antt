@@ -11,7 +11,7 @@ use Rattle.rules.specs.Table.{planCount}
 use Rattle.rules.specs.Answers.{tableCheck}
 use Rattle.rules.specs.declared.Outcome.{Outcome}
 use Rattle.rules.specs.declared.Outcome.the-variants.{Done}
-use Rattle.rules.proofs.Unique.{one-answer, OneAnswer}
+use Rattle.rules.proofs.Unique.{one-answer, OneAnswer, by-equation}
 use Rattle.children.proofs.Unique.{Alike}
 use Rattle.table.specs.Facts.{Facts}
 use Rattle.table.proofs.has_mark.Reads as has-mark
@@ -23,11 +23,7 @@ use Rattle.table.proofs.sub_tree.Reads as sub-tree
 -- the functions that are lent nothing to write
 pub checks-once :
     OneAnswer has-mark.Post × OneAnswer header-check.Post × OneAnswer check-table.Post
-checks-once = (
-  λ κs a z z′ e e′ h h′. one-answer h h′,
-  λ κs a z z′ e e′ h h′. one-answer h h′,
-  λ κs a z z′ e e′ h h′. one-answer h h′,
-)
+checks-once = (by-equation, by-equation, by-equation)
 
 -- of the part that is handed back, its bytes
 pub sub-tree-once :
@@ -52,7 +48,7 @@ module _ (t ranks counts names ranks′ counts′ names′ : List ℕ) where
       }
 
 pub read-table-once : OneAnswer read-table.Post
-read-table-once κs a z z′ e e′ h h′ = one-answer (h .is) (h′ .is)
+read-table-once = record { once = λ κs a z z′ e e′ h h′. one-answer (h .is) (h′ .is) }
 
 -- `read_table`: of a table that passes, what it leaves in the buffers is one
 pub read-table-facts-once :

@@ -5,7 +5,6 @@ use Prim.Native.Nat.{ℕ, _/_, _%_, _^_, _<_, _≤_}
 use native.Mathlib.Omega.{arith}
 use mathlib.Core.Path.{_≡_, sym, ap, _∙_}
 use mathlib.Core.List.{List}
-use contract.Lifetimes.{Lfts}
 use denote.Ref.{now}
 use Rattle.rules.specs.Answers.{place}
 use Rattle.rules.specs.declared.Refusal.{Refusal}
@@ -27,7 +26,7 @@ use Rattle.rules.specs.declared.Refusal.the-variants.{
   Unexplained,
   InputLong,
 }
-use Rattle.rules.proofs.Unique.{one-answer, OneAnswer}
+use Rattle.rules.proofs.Unique.{one-answer, OneAnswer, OneAnswerLeaving}
 use Rattle.demands.proofs.Unique.{judged-once}
 use Rattle.tablet.proofs.asbru_step.Reads as asbru-step
 use Rattle.tablet.proofs.asbru_rest.Reads as asbru-rest
@@ -38,16 +37,12 @@ told-once : (t r : List ℕ) {a b : ℕ} → Told t r a → Told t r b → a ≡
 told-once t r x y = x .told ∙ ap packedVerdict (judged-once t r (x .judged) (y .judged)) ∙ sym (y .told)
 
 pub asbru-check-once : OneAnswer asbru-check.Post
-asbru-check-once κs a z z′ e e′ h h′ = told-once (now (a .0)) (now (a .1 .0)) h h′
+asbru-check-once = record { once = λ κs a z z′ e e′ h h′. told-once (now (a .0)) (now (a .1 .0)) h h′ }
 
-pub asbru-step-once :
-    (κs : Lfts 3) (a : _) (z z′ : _) (e e′ : _) → asbru-step.Post κs a z e → asbru-step.Post κs a z′ e′
-    → (z ≡ z′) × (now (e .1 .0) ≡ now (e′ .1 .0))
+pub asbru-step-once : OneAnswerLeaving asbru-step.Post (λ e. now (e .1 .0))
 asbru-step-once κs a z z′ e e′ h h′ = (one-answer (h .0) (h′ .0), one-answer (h .1) (h′ .1))
 
-pub asbru-rest-once :
-    (κs : Lfts 3) (a : _) (z z′ : _) (e e′ : _) → asbru-rest.Post κs a z e → asbru-rest.Post κs a z′ e′
-    → (z ≡ z′) × (now (e .1 .0) ≡ now (e′ .1 .0))
+pub asbru-rest-once : OneAnswerLeaving asbru-rest.Post (λ e. now (e .1 .0))
 asbru-rest-once κs a z z′ e e′ h h′ = (one-answer (h .0) (h′ .0), one-answer (h .1) (h′ .1))
 
 -- how a host takes an answer apart

@@ -10,20 +10,20 @@ use Rattle.moves.proofs.moved.Tie as tie
 
 returns : tie.Need-returns
 returns c t s known own =
-    let args = c .before .before .before .before .before .before .args in
+    let args = c .before .before .before .before .before .args in
     let p = args .p in
-    let executing = c .before .before .before .before .in-execution .ensures in
+    let executing = c .before .before .before .in-execution .ensures in
+    let told = c .before .before .told-if .ensures t s known own in
     c .moved-on .ensures
     ∙ same-move (args .x) (args .state) (c .before .is .ensures) refl (own .is)
-    (c .before .before .before .lost-if .ensures t s known own ∙ ap (λ (b : Bool). b && tooManyLost t s p) executing)
-    (c .before .before .complete-if .ensures t s known own ∙ ap (λ (b : Bool). b && childrenComplete t s p) executing)
+    (told .0 ∙ ap (λ (b : Bool). b && tooManyLost t s p) executing)
+    (told .1 ∙ ap (λ (b : Bool). b && childrenComplete t s p) executing)
     ∙ idle-move _ _ (entry t p) (args .x) (tooManyLost t s p) (childrenComplete t s p) (args .state)
 
 pub moved-spec : {M : Type 1} → statement M
 moved-spec =
     tie.close
     (tie.spec
-    (λ c κs. search needs)
     (λ c κs. search needs)
     (λ c κs. search needs)
     (λ c κs. search needs)

@@ -21,12 +21,11 @@ module _ (t : List ℕ) (k : ℕ) (most : (n : ℕ) → length t ≡ 8 + 8 * n �
 
   work-space :
       (m : ℕ) → m ≡ k * 9
-      → FactsRoom t (replicate k 0) (replicate k 0) (replicate k 0) × RoomToStep t (replicate m 0) (replicate k 0) (replicate k 0)
+      → FactsRoom t (replicate k 0) (replicate k 0) (replicate k 0) × RoomToStep t (replicate m 0) (replicate k 0)
   work-space m e = (
     record { ranks-room = one; counts-room = one; names-room = one },
     record {
       sets-room = room 9 m e;
-      picks-room = one;
       new-room = one;
       empty = λ i l. getD-replicate {A = ℕ} m i 0 0 (rw length-replicate at l);
     },
@@ -34,12 +33,12 @@ module _ (t : List ℕ) (k : ℕ) (most : (n : ℕ) → length t ≡ 8 + 8 * n �
 
 step-within-requires : tie.Need-step-within-requires
 step-within-requires c κs =
-    let few = c .before .before .before .before .before .before .before .if1 .taken in
+    let few = c .before .before .before .before .before .before .if1 .taken in
     work-space _ 16 (λ n long small. omega (arith, few, long)) 144 (omega arith)
 
 step-within-requires-2 : tie.Need-step-within-requires-2
 step-within-requires-2 c κs =
-    let few = c .before .before .before .before .before .before .before .if2 .taken in
+    let few = c .before .before .before .before .before .before .if2 .taken in
     work-space _ 64 (λ n long small. omega (arith, few, long)) 576 (omega arith)
 
 step-within-requires-3 : tie.Need-step-within-requires-3
@@ -54,7 +53,6 @@ step-spec =
     (λ c. search needs)
     (λ c. search needs)
     (λ c. search needs)
-    (λ c. search needs)
     step-within-requires
     (λ c. search needs)
     (λ c. search needs)
@@ -63,9 +61,7 @@ step-spec =
     (λ c. search needs)
     (λ c. search needs)
     (λ c. search needs)
-    (λ c. search needs)
     step-within-requires-2
-    (λ c. search needs)
     (λ c. search needs)
     (λ c. search needs)
     (λ c. search needs)

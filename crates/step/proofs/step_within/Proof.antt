@@ -9,7 +9,7 @@ use Rattle.step.proofs.step_within.Tie as tie
 
 -- where the call has been checked: the start
 abbrev start-of : tie.After-check-call → tie.Start
-start-of c = c .before .before .before .before .before .before .before .before .before .before .before .before .before .before
+start-of c = c .before .before .before .before .before .before .before .before .before .before .before .before .before
 
 step-over-requires : tie.Need-step-over-requires
 step-over-requires c κs =
@@ -30,7 +30,7 @@ step-over-requires c κs =
       moves,
       record {
         sets-room = omega (arith, whole, sets-room);
-        picks-room = omega (arith, whole, step-room .picks-room _ long small);
+        picks-room = omega (arith, whole, facts-room .counts-room _ long small);
         new-room = omega (arith, whole, step-room .new-room _ long small);
         empty = λ i l. step-room .empty i (omega (arith, l, whole, sets-room));
       },
@@ -63,7 +63,6 @@ step-within-spec =
     (λ c. search needs)
     (λ c. search needs)
     returns
-    (λ c. search needs)
     (λ c. search needs)
     (λ c. search needs)
     (λ c. search needs)

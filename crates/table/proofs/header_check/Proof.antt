@@ -1,13 +1,15 @@
 -- `header_check` meets its contract: each refusal by the tests that led there. Assumes nothing.
 use borrow.Author.Needs.{needs}
 use borrow.Author.Tests.{lt-ltb, le-ltb, eq-eqb, ne-eqb}
-use mathlib.Core.Path.{sym, ap, _∙_}
+use mathlib.Core.Path.{_≡_, sym, ap, _∙_}
 use mathlib.Core.Bool.{Bool, not, _||_}
+use mathlib.Core.List.{List}
 use Prim.Native.Nat.{ℕ}
 use lib.Dec.{eqb, ltb}
 use denote.Ref.{now}
 use Rattle.rules.specs.Bytes.{byteAt}
-use Rattle.rules.specs.Answers.{headerCheck}
+use Rattle.rules.specs.Answers.{refuseIf, headerCheck}
+use Rattle.rules.specs.declared.Refusal.the-variants.{TableCount}
 use Rattle.rules.proofs.Outcomes.{pass, stop, pass-last, stop-last}
 use Rattle.table.proofs.header_check.Statement.{statement}
 use Rattle.table.proofs.header_check.Tie as tie
@@ -32,29 +34,29 @@ returns-3 c =
     ∙ pass _ _ _ (ap not (sym (b .before .has-mark .ensures)) ∙ b .if2 .left)
     ∙ stop _ _ _ (ap not (ne-eqb _ _ (λ e. c .if3 .taken (c .before .u16-at .ensures ∙ e)))))
 
+-- 1 to 3 have passed: the number of plans decides
+abbrev wrong : List ℕ → ℕ → Bool
+wrong t n = ltb n 1 || ltb 256 n || not (eqb (byteAt t 7) 0)
+
+module _ (c : tie.After-u16-at2) where
+  abbrev table : List ℕ
+  table = now (c .before .before .before .before .before .before .before .args .table)
+
+  by-count : headerCheck table ≡ refuseIf (wrong table (c .u16-at2 .result)) TableCount
+  unfolding headerCheck
+  by-count =
+      let a = c .before in
+      let b = a .before .before in
+      pass _ _ _ (le-ltb _ _ (b .before .before .if1 .left))
+      ∙ pass _ _ _ (ap not (sym (b .before .has-mark .ensures)) ∙ b .if2 .left)
+      ∙ pass _ _ _ (ap not (eq-eqb _ _ (sym (a .before .u16-at .ensures) ∙ a .if3 .left)))
+      ∙ ap (λ (n : ℕ). refuseIf (wrong table n) TableCount) (sym (c .u16-at2 .ensures))
+
 returns-4 : tie.Need-returns-4
-unfolding headerCheck
-returns-4 c =
-    let a = c .before .before .before in
-    let b = a .before .before in
-    let wrong : ℕ → Bool = (λ n. ltb n 1 || ltb 256 n || not (eqb (byteAt (now (b .before .before .before .before .args .table)) 7) 0)) in
-    sym
-    (pass _ _ _ (le-ltb _ _ (b .before .before .if1 .left))
-    ∙ pass _ _ _ (ap not (sym (b .before .has-mark .ensures)) ∙ b .if2 .left)
-    ∙ pass _ _ _ (ap not (eq-eqb _ _ (sym (a .before .u16-at .ensures) ∙ a .if3 .left)))
-    ∙ stop-last _ _ (ap wrong (sym (c .before .before .u16-at2 .ensures)) ∙ c .if4 .taken))
+returns-4 c = sym (by-count (c .before .before) ∙ stop-last _ _ (c .if4 .taken))
 
 returns-5 : tie.Need-returns-5
-unfolding headerCheck
-returns-5 c =
-    let a = c .before .before .before in
-    let b = a .before .before in
-    let wrong : ℕ → Bool = (λ n. ltb n 1 || ltb 256 n || not (eqb (byteAt (now (b .before .before .before .before .args .table)) 7) 0)) in
-    sym
-    (pass _ _ _ (le-ltb _ _ (b .before .before .if1 .left))
-    ∙ pass _ _ _ (ap not (sym (b .before .has-mark .ensures)) ∙ b .if2 .left)
-    ∙ pass _ _ _ (ap not (eq-eqb _ _ (sym (a .before .u16-at .ensures) ∙ a .if3 .left)))
-    ∙ pass-last _ _ (ap wrong (sym (c .before .before .u16-at2 .ensures)) ∙ c .if4 .left))
+returns-5 c = sym (by-count (c .before .before) ∙ pass-last _ _ (c .if4 .left))
 
 pub header-check-spec : {M : Type 1} → statement M
 header-check-spec =
