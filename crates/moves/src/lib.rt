@@ -261,8 +261,9 @@ fn all_ended(sets: &[u64], p: usize) -> bool
     requires { ⌜ HasWords (now sets) p ⌝ }
     ensures { λ r. ⌜ TellsAllEnded (now (sets .entry)) p r ⌝ }
 {
-    let ready = in_state(sets, p, PlanState::Ready);
-    (before_ready(sets, p) | (ready | running(sets, p))) == 0
+    let waiting = before_ready(sets, p);
+    let begun = in_state(sets, p, PlanState::Ready) | running(sets, p);
+    (waiting | begun) == 0
 }
 
 // Whether a plan in a state moves by orders: it is Inactive, Ready or Aborted.
@@ -429,8 +430,10 @@ fn gate_open(sets: &[u64], q: usize) -> bool
     requires { ⌜ HasWords (now sets) q ⌝ }
     ensures { λ r. ⌜ TellsGate (now (sets .entry)) q r ⌝ }
 {
+    let waiting = before_ready(sets, q);
+    let begun = running(sets, q);
     let over = in_state(sets, q, PlanState::Completed) | in_state(sets, q, PlanState::Aborted);
-    (before_ready(sets, q) == 0) | ((running(sets, q) | over) != 0)
+    (waiting == 0) | ((begun | over) != 0)
 }
 
 // Whether an any-order plan q may activate a child.
@@ -438,8 +441,9 @@ fn may_activate(sets: &[u64], q: usize, again: bool) -> bool
     requires { ⌜ HasWords (now sets) q ⌝ }
     ensures { λ r. ⌜ TellsMayActivate (now (sets .entry)) q again r ⌝ }
 {
+    let begun = running(sets, q);
     let aborted = in_state(sets, q, PlanState::Aborted);
-    (running(sets, q) == 0) & !(again & (aborted != 0))
+    (begun == 0) & !(again & (aborted != 0))
 }
 
 // The children of plan q that have not come to be Ready, as a word.

@@ -7,8 +7,8 @@ use Rattle.moves.proofs.all_ended.Tie as tie
 
 returns : tie.Need-returns
 returns c t s known =
-    let waiting = c .before .before-ready .ensures t s known in
-    let ready = in-one known Ready (c .before .before .in-state .ensures) in
+    let waiting = c .before .before .before-ready .ensures t s known in
+    let ready = in-one known Ready (c .before .in-state .ensures) in
     ended-is (in-either waiting (in-either ready (c .running .ensures t s known)))
 
 pub all-ended-spec : {M : Type 1} → statement M

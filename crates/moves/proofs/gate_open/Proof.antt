@@ -7,10 +7,11 @@ use Rattle.moves.proofs.gate_open.Tie as tie
 
 returns : tie.Need-returns
 returns c t s known =
-    let waiting = c .before .before-ready .ensures t s known in
-    let completed = in-one known Completed (c .before .before .before .in-state .ensures) in
-    let aborted = in-one known Aborted (c .before .before .in-state2 .ensures) in
-    gate-is waiting (in-either (c .running .ensures t s known) (in-either completed aborted))
+    let waiting = c .before .before .before .before-ready .ensures t s known in
+    let begun = c .before .before .running .ensures t s known in
+    let completed = in-one known Completed (c .before .in-state .ensures) in
+    let aborted = in-one known Aborted (c .in-state2 .ensures) in
+    gate-is waiting (in-either begun (in-either completed aborted))
 
 pub gate-open-spec : {M : Type 1} → statement M
 gate-open-spec =

@@ -6,7 +6,7 @@ use Rattle.moves.proofs.may_activate.Statement.{statement}
 use Rattle.moves.proofs.may_activate.Tie as tie
 
 returns : tie.Need-returns
-returns c t s known e = may-is e (c .running .ensures t s known) (in-one known Aborted (c .before .in-state .ensures))
+returns c t s known e = may-is e (c .before .running .ensures t s known) (in-one known Aborted (c .in-state .ensures))
 
 pub may-activate-spec : {M : Type 1} → statement M
 may-activate-spec =
