@@ -114,15 +114,14 @@ fn child_suits(parent: PlanState, child: PlanState) -> bool
 {
     let idle = child.is(PlanState::Inactive);
     match parent {
-        PlanState::Inactive => idle,
-        PlanState::Considered => idle,
-        PlanState::Possible => idle,
-        PlanState::Ready => idle,
+        PlanState::Inactive
+        | PlanState::Considered
+        | PlanState::Possible
+        | PlanState::Ready
+        | PlanState::Rejected => idle,
         PlanState::Activated => true,
         PlanState::Suspended => !child.is(PlanState::Activated),
-        PlanState::Completed => idle | child.is_ended(),
-        PlanState::Aborted => idle | child.is_ended(),
-        PlanState::Rejected => idle,
+        PlanState::Completed | PlanState::Aborted => idle | child.is_ended(),
     }
 }
 
