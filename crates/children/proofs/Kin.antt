@@ -1,7 +1,7 @@
 -- Laws of children: one plan more, and what it does to a word. Assumes nothing.
 use mathlib.Core.Path.{_≡_, refl, sym, ap, _∙_}
 use mathlib.Core.List.{List, [], _∷_, _++_, map, map-append, append-nil}
-use mathlib.Core.Bool.{Bool, true, false, cond, false≢true}
+use mathlib.Core.Bool.{Bool, true, false, cond, _&&_, _||_, or-false, or-assoc, false≢true}
 use Prim.Native.Nat.{ℕ, zero, suc, _+_, _*_, _^_, _≤_, _<_}
 use native.Mathlib.Decide.{ℕ-discrete}
 use native.Mathlib.Numerals.{add-one}
@@ -11,10 +11,17 @@ use lib.Seq.{getD-set-same, getD-set-other}
 use lib.Dec.{eqb}
 use borrow.Author.Tests.{eq-eqb, ne-eqb, eqb-true}
 use Rattle.rules.specs.Bytes.{byteAt}
+use Rattle.rules.specs.Lists.{some}
 use Rattle.rules.specs.Table.{parent, isChild, childrenBefore, rank}
 use Rattle.rules.proofs.Digits.{bit}
 use Rattle.children.specs.Sets.{bits, setBefore, Rooted, Beyond, Ranked, Collected}
 use Rattle.children.proofs.Bits.{bits-snoc, bits-fit}
+
+-- one plan more in a list, or none
+pub some-snoc : (f : ℕ → Bool) (xs : List ℕ) (k : ℕ) (b : Bool) → some f (xs ++ cond b (k ∷ []) []) ≡ (some f xs || b && f k)
+some-snoc f [] k true = or-false (f k)
+some-snoc f [] k false = refl
+some-snoc f (x ∷ xs) k b = ap (λ (r : Bool). f x || r) (some-snoc f xs k b) ∙ sym (or-assoc (f x) (some f xs) (b && f k))
 
 module _ (t : List ℕ) where
   is-child : (q p : ℕ) → 0 < p → isChild t q p ≡ eqb (parent t p) q

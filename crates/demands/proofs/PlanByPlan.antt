@@ -12,7 +12,7 @@ use Rattle.rules.specs.Step.{chosen, stepBy, stepUnder}
 use Rattle.rules.specs.Record.{Explained}
 use Rattle.rules.specs.Answers.{tableCheck}
 use Rattle.rules.specs.declared.Outcome.the-variants.{Done}
-use Rattle.rules.proofs.Tree.{passes, Tree, tree}
+use Rattle.rules.proofs.Tree.{Tree}
 use Rattle.demands.specs.Witness.{witness}
 use Rattle.demands.proofs.Children.{after-parent}
 use Rattle.demands.proofs.Choice.{same-chosen}

@@ -1,6 +1,6 @@
 -- The witness: of all picks, the ones that explain the states shown if any do. Assumes nothing.
 use Prim.Native.Nat.{ℕ}
-use mathlib.Core.Bool.{Bool, true, false, cond, _&&_}
+use mathlib.Core.Bool.{Bool, cond, _&&_}
 use mathlib.Core.List.{List, [], _∷_}
 use Rattle.rules.specs.Lists.{some, noPlan, first}
 use Rattle.rules.specs.States.{stateAt, is}

@@ -5,8 +5,8 @@ use native.Mathlib.Omega.{arith}
 use native.Mathlib.Numerals.{add-one}
 use native.Mathlib.Decide.{ℕ-discrete, le-ind}
 use mathlib.Core.Path.{_≡_, refl, sym, ap, _∙_}
-use mathlib.Core.Bool.{Bool, true, false, cond, not, _&&_, _||_, and-false, or-false, or-true, or-assoc}
-use mathlib.Core.List.{List, [], _∷_, _++_}
+use mathlib.Core.Bool.{Bool, true, false, not, _&&_, _||_, and-false, or-false, or-true}
+use mathlib.Core.List.{List}
 use lib.Dec.{eqb, ltb}
 use lib.ListN.{length, set, replicate, length-set, length-replicate, getD-replicate}
 use lib.Seq.{getD-set-same, getD-set-other}
@@ -33,15 +33,9 @@ use Rattle.rules.specs.declared.PlanState.the-variants.{
   Aborted,
   Rejected,
 }
-use Rattle.children.proofs.Kin.{children-own, children-other}
+use Rattle.children.proofs.Kin.{some-snoc, children-own, children-other}
 use Rattle.lent.specs.BodyRule.{breaksBy}
 use Rattle.rules.proofs.Codes.{state-is}
-
--- one plan more in a list, or none
-pub some-snoc : (f : ℕ → Bool) (xs : List ℕ) (k : ℕ) (b : Bool) → some f (xs ++ cond b (k ∷ []) []) ≡ (some f xs || b && f k)
-some-snoc f [] k true = or-false (f k)
-some-snoc f [] k false = refl
-some-snoc f (x ∷ xs) k b = ap (λ (r : Bool). f x || r) (some-snoc f xs k b) ∙ sym (or-assoc (f x) (some f xs) (b && f k))
 
 module _ (t : List ℕ) where
   -- one plan more among the children

@@ -14,12 +14,10 @@ use Rattle.rules.specs.Lists.{some, first, noPlan}
 use Rattle.rules.specs.Bytes.{byteAt}
 use Rattle.rules.specs.States.{code, stateAt, is}
 use Rattle.rules.specs.Table.{planCount, parent, entry, bodyOf, isAnyOrder, rank, childrenBefore, children}
-use Rattle.rules.specs.declared.PlanState.{PlanState}
 use Rattle.rules.specs.declared.PlanState.the-variants.{Ready, Activated}
 use Rattle.rules.proofs.Codes.{state-is, test-byte}
 use Rattle.children.specs.Sets.{Rooted}
-use Rattle.children.proofs.Kin.{children-own, children-other, children-none}
-use Rattle.lent.proofs.Marks.{some-snoc}
+use Rattle.children.proofs.Kin.{some-snoc, children-own, children-other, children-none}
 use Rattle.demands.specs.Witness.{last, firstMarked, activatedChild, witness}
 use Rattle.parts.specs.OneStep.{Witnessed}
 
