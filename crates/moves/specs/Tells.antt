@@ -26,7 +26,7 @@ use Rattle.rules.specs.declared.PlanState.{PlanState}
 use Rattle.rules.specs.declared.PlanState.the-variants.{Suspended}
 use Rattle.children.specs.Sets.{setOf}
 use Rattle.moves.specs.ChildWords.{ChildWords}
-use Rattle.moves.specs.declared.Told.{Told}
+use Rattle.moves.specs.declared.Said.{Said}
 
 -- e is the entry of plan q, and names the word of its named children
 pub record OwnEntry (t : List ℕ) (q : ℕ) (e : PlanEntry) (names : ℕ) : Type 0 where
@@ -96,8 +96,8 @@ module _ (sets : List ℕ) (q : ℕ) where
   TellsComplete e names r = (t s : List ℕ) → ChildWords t s q sets → OwnEntry t q e names → r ≡ childrenComplete t s q
 
   -- both where they count: of a plan in execution
-  abbrev pub TellsIf : Bool → PlanEntry → ℕ → Told → Type 0
-  TellsIf executing e names r =
+  abbrev pub TellsSaid : Bool → PlanEntry → ℕ → Said → Type 0
+  TellsSaid executing e names r =
       (t s : List ℕ) → ChildWords t s q sets → OwnEntry t q e names
       → (r .lost ≡ (executing && tooManyLost t s q)) × (r .complete ≡ (executing && childrenComplete t s q))
 

@@ -13,7 +13,7 @@ ghost use Rattle.rules.specs.Step.{moveOn, cutOff, none, rootOrders, ordersOf, 
 ghost use Rattle.rules.specs.Step.{chosen as Step·chosen};
 ghost use Rattle.moves.specs.ChildWords.{HasWords};
 ghost use Rattle.moves.specs.Tells.{TellsFirstNotDone, TellsGate, TellsMayActivate, TellsChosenRank, TellsPicked, TellsOrders};
-ghost use Rattle.moves.specs.Tells.{TellsOrdersIf, TellsAllEnded, TellsLost, TellsComplete, TellsIf, TellsMove, TellsWord};
+ghost use Rattle.moves.specs.Tells.{TellsOrdersIf, TellsAllEnded, TellsLost, TellsComplete, TellsSaid, TellsMove, TellsWord};
 ghost use Rattle.moves.specs.Parents.{parentState, ordersAt, takesOrders, byParent};
 ghost use Rattle.moves.specs.StepFacts.{picksOf, StepFacts, Names};
 use reading::entry_at;
@@ -103,14 +103,14 @@ fn moved(
     requires { ⌜ HasWords (now sets) p ⌝ }
     ensures { λ r. ⌜ TellsMove (now (sets .entry)) p e names o x state after r ⌝ }
 {
-    let told = told_if(state.in_execution(), e, names, sets, p);
+    let said = children_say(state.in_execution(), e, names, sets, p);
     moved_on(
         after.is(PlanState::Suspended),
         o,
         e,
         x,
-        told.lost,
-        told.complete,
+        said.lost,
+        said.complete,
         state,
     )
 }
@@ -210,23 +210,23 @@ fn cut_off(old: PlanState) -> PlanState
 }
 
 // What a plan is told by its children: that too many are lost, that they let it complete.
-struct Told {
+struct Said {
     lost: bool,
     complete: bool,
 }
 
 // What the children tell, where that counts: a plan that is not in execution does not look at them.
-fn told_if(executing: bool, e: PlanEntry, names: u64, sets: &[u64], p: usize) -> Told
+fn children_say(executing: bool, e: PlanEntry, names: u64, sets: &[u64], p: usize) -> Said
     requires { ⌜ HasWords (now sets) p ⌝ }
-    ensures { λ r. ⌜ TellsIf (now (sets .entry)) p executing e names r ⌝ }
+    ensures { λ r. ⌜ TellsSaid (now (sets .entry)) p executing e names r ⌝ }
 {
     if !executing {
-        return Told {
+        return Said {
             lost: false,
             complete: false,
         };
     }
-    Told {
+    Said {
         lost: too_many_lost(e, names, sets, p),
         complete: children_complete(e, names, sets, p),
     }

@@ -91,35 +91,35 @@ unfolding T1Of
 unordered = T1Of 4 0 0 1 0x20
 
 -- a table of n plans with an unordered root, its flags and conditions as given, and then the other plans' entries
-rooted : ℕ → ℕ → ℕ → List ℕ → List ℕ
-rooted n flags present others =
+tableOf : ℕ → ℕ → ℕ → List ℕ → List ℕ
+tableOf n flags present others =
     0x41 ∷ 0x50 ∷ 0x54 ∷ 0x01 ∷ 0x00 ∷ n ∷ 0x00 ∷ 0x00
     ∷ 0xFF ∷ 0xFF ∷ 0x04 ∷ flags ∷ present ∷ 0x00 ∷ 0x00 ∷ 0x00
     ∷ others
 
 -- the entry of a plan with this parent and body and nothing else, before others
-under : ℕ → ℕ → List ℕ → List ℕ
-under parent body others = parent ∷ 0x00 ∷ body ∷ 0x00 ∷ 0x00 ∷ 0x00 ∷ 0x00 ∷ 0x00 ∷ others
+entryUnder : ℕ → ℕ → List ℕ → List ℕ
+entryUnder parent body others = parent ∷ 0x00 ∷ body ∷ 0x00 ∷ 0x00 ∷ 0x00 ∷ 0x00 ∷ 0x00 ∷ others
 
 -- a chain of three: a root with retry-aborted and complete present, a sequential plan, a leaf
 chain : List ℕ
-unfolding rooted under
-chain = rooted 3 1 0x20 (under 0 1 (under 1 0 []))
+unfolding tableOf entryUnder
+chain = tableOf 3 1 0x20 (entryUnder 0 1 (entryUnder 1 0 []))
 
 -- a root with k leaves
 leaves : ℕ → List ℕ
-unfolding under
+unfolding entryUnder
 leaves zero = []
-leaves (suc k) = under 0 0 (leaves k)
+leaves (suc k) = entryUnder 0 0 (leaves k)
 
 star : ℕ → List ℕ
-unfolding rooted leaves
-star k = rooted (suc k) 0 0 (leaves k)
+unfolding tableOf leaves
+star k = tableOf (suc k) 0 0 (leaves k)
 
 -- two leaves, and a child of the first behind the second: its parent is no ancestor of the plan before it
 crossed : List ℕ
-unfolding rooted under
-crossed = rooted 4 0 0 (under 0 4 (under 0 0 (under 1 0 [])))
+unfolding tableOf entryUnder
+crossed = tableOf 4 0 0 (entryUnder 0 4 (entryUnder 0 0 (entryUnder 1 0 [])))
 
 -- three states as document 01 writes them (000 is the number 0), and three words
 unfoldable pub states : ℕ → List ℕ

@@ -13,11 +13,11 @@ returns c t s known own =
     let args = c .before .before .before .before .before .args in
     let p = args .p in
     let executing = c .before .before .before .in-execution .ensures in
-    let told = c .before .before .told-if .ensures t s known own in
+    let said = c .before .before .children-say .ensures t s known own in
     c .moved-on .ensures
     ∙ same-move (args .x) (args .state) (c .before .is .ensures) refl (own .is)
-    (told .0 ∙ ap (λ (b : Bool). b && tooManyLost t s p) executing)
-    (told .1 ∙ ap (λ (b : Bool). b && childrenComplete t s p) executing)
+    (said .0 ∙ ap (λ (b : Bool). b && tooManyLost t s p) executing)
+    (said .1 ∙ ap (λ (b : Bool). b && childrenComplete t s p) executing)
     ∙ idle-move _ _ (entry t p) (args .x) (tooManyLost t s p) (childrenComplete t s p) (args .state)
 
 pub moved-spec : {M : Type 1} → statement M
