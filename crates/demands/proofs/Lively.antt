@@ -13,6 +13,7 @@ use Rattle.rules.specs.States.{stateAt}
 use Rattle.rules.specs.Table.{planCount, childrenBefore, children, rank, isOrIsAbove}
 use Rattle.rules.specs.Words.{holds, satisfiable}
 use Rattle.rules.specs.Step.{
+  move,
   tooManyLost,
   childrenComplete,
   firstNotDone,
@@ -139,7 +140,7 @@ pub record Lively : Type 0 where
 
 pub lively : Lively
 unfolding
-    leastFrom stateAt childrenBefore children rank isOrIsAbove holds satisfiable tooManyLost childrenComplete firstNotDone gateOpen
+    leastFrom stateAt childrenBefore children rank isOrIsAbove holds satisfiable move tooManyLost childrenComplete firstNotDone gateOpen
     mayActivate chosen orders stepFirst stepBy stepUnder undefinedEntry unfitEntry unrooted badParent undefinedByte unfit badWait _andThen_
     refuseIf refuseAt headerCheck plansCheck tableCheck badRecordWord recordCheck wordsCheck activatedChild witness
 lively =

@@ -3,11 +3,12 @@
 use Prim.Native.Nat.{ℕ}
 use mathlib.Core.Bool.{Bool, true, false, cond, not, _&&_, _||_}
 use mathlib.Core.Logic.{_⊎_}
+use mathlib.Core.Path.{_≡_, refl}
 use mathlib.Core.List.{[], _∷_}
 use lib.Dec.{T, eqb, eqb-refl}
 use Rattle.rules.specs.States.{code, oneOf, is, inSelection, inExecution, ended}
 use Rattle.rules.specs.Words.{holds, satisfiable}
-use Rattle.rules.specs.Step.{moveOn, cutOff, move, done}
+use Rattle.rules.specs.Step.{move, done}
 use Rattle.rules.specs.HandedIn.{suits}
 use Rattle.rules.specs.declared.PlanEntry.{PlanEntry}
 use Rattle.rules.specs.declared.Orders.{Orders}
@@ -43,6 +44,10 @@ goesOn held o Rejected new = is Rejected new
 abbrev pub dormant : PlanState → Bool
 dormant state = is Inactive state || inSelection state
 
+-- under an ended parent
+abbrev cutOff : PlanState → PlanState
+cutOff old = cond (inSelection old) Rejected (cond (inExecution old) Aborted old)
+
 -- from old to new, by the parent's new state and its orders
 abbrev goes : PlanState → Orders → PlanState → PlanState → Bool
 goes parent o old new =
@@ -52,35 +57,48 @@ itself : (x : PlanState) → T (is x x)
 itself x = in-left (eqb (code x) (code x)) false (eqb-refl (code x))
 
 module _ (o : Orders) (e : PlanEntry) (x : ℕ) (lost mayComplete : Bool) where
-  moveOn-goes : (held : Bool) (old : PlanState) → T (goesOn held o old (moveOn held o e x lost mayComplete old))
-  moveOn-goes held Inactive = cond-by (λ y. T (goesOn held o Inactive y)) (o .considers) (λ h. h) (λ h. tt)
-  moveOn-goes held Considered =
-      let P : PlanState → Type 0 = (λ y. T (goesOn held o Considered y)) in
-      cond-by P (holds Filter e x) (λ h. tt) (λ h. cond-by P (not (satisfiable Filter e x)) (λ k. tt) (λ k. tt))
-  moveOn-goes held Possible =
-      let P : PlanState → Type 0 = (λ y. T (goesOn held o Possible y)) in
-      cond-by P (holds Setup e x) (λ h. tt) (λ h. cond-by P (not (satisfiable Setup e x)) (λ k. tt) (λ k. tt))
-  moveOn-goes held Ready = cond-by (λ y. T (goesOn held o Ready y)) (o .activates) (λ h. h) (λ h. tt)
-  moveOn-goes held Activated =
-      let P : PlanState → Type 0 = (λ y. T (goesOn held o Activated y)) in
-      cond-by P (holds Abort e x || lost) (λ h. tt)
-      (λ h. cond-by P (held || holds Suspend e x) (λ k. tt)
-      (λ k. cond-by P (holds Complete e x && mayComplete) (λ m. tt) (λ m. neither held (holds Suspend e x) k)))
-  moveOn-goes held Suspended =
-      let P : PlanState → Type 0 = (λ y. T (goesOn held o Suspended y)) in
-      cond-by P (holds Abort e x || lost) (λ h. tt)
-      (λ h. cond-by P (not held && holds Reactivate e x) (λ k. left (not held) (holds Reactivate e x) k) (λ k. tt))
-  moveOn-goes held Completed = tt
-  moveOn-goes held Aborted = cond-by (λ y. T (goesOn held o Aborted y)) (o .retries) (λ h. h) (λ h. tt)
-  moveOn-goes held Rejected = tt
+  module _
+      (parent : PlanState) (begun : dormant parent ≡ false) (goes-on : ended parent ≡ false)
+      (either-way : is Activated parent ≡ not (is Suspended parent)) where
+    abbrev held : Bool
+    held = is Suspended parent
+
+    executing-goes : (old : PlanState) → T (goes parent o old (move parent o e x lost mayComplete old))
+    unfolding move
+    executing-goes Inactive =
+        rw (begun, goes-on) (cond-by (λ y. T (goesOn held o Inactive y)) (o .considers) (λ h. h) (λ h. tt))
+    executing-goes Considered =
+        let P : PlanState → Type 0 = (λ y. T (goesOn held o Considered y)) in
+        rw (begun, goes-on)
+        (cond-by P (holds Filter e x) (λ h. tt) (λ h. cond-by P (not (satisfiable Filter e x)) (λ k. tt) (λ k. tt)))
+    executing-goes Possible =
+        let P : PlanState → Type 0 = (λ y. T (goesOn held o Possible y)) in
+        rw (begun, goes-on)
+        (cond-by P (holds Setup e x) (λ h. tt) (λ h. cond-by P (not (satisfiable Setup e x)) (λ k. tt) (λ k. tt)))
+    executing-goes Ready = rw (begun, goes-on) (cond-by (λ y. T (goesOn held o Ready y)) (o .activates) (λ h. h) (λ h. tt))
+    executing-goes Activated =
+        let P : PlanState → Type 0 = (λ y. T (goesOn held o Activated y)) in
+        rw (begun, goes-on)
+        (cond-by P (holds Abort e x || lost) (λ h. tt)
+        (λ h. cond-by P (held || holds Suspend e x) (λ k. tt)
+        (λ k. cond-by P (holds Complete e x && mayComplete) (λ m. tt) (λ m. neither held (holds Suspend e x) k))))
+    executing-goes Suspended =
+        let P : PlanState → Type 0 = (λ y. T (goesOn held o Suspended y)) in
+        rw (begun, goes-on, either-way)
+        (cond-by P (holds Abort e x || lost) (λ h. tt)
+        (λ h. cond-by P (not held && holds Reactivate e x) (λ k. left (not held) (holds Reactivate e x) k) (λ k. tt)))
+    executing-goes Completed = rw (begun, goes-on) tt
+    executing-goes Aborted = rw (begun, goes-on) (cond-by (λ y. T (goesOn held o Aborted y)) (o .retries) (λ h. h) (λ h. tt))
+    executing-goes Rejected = rw (begun, goes-on) tt
 
   move-goes : (parent old : PlanState) → T (goes parent o old (move parent o e x lost mayComplete old))
+  unfolding move
   move-goes Inactive old = tt
   move-goes Considered old = tt
   move-goes Possible old = tt
   move-goes Ready old = tt
-  move-goes Activated old = moveOn-goes false old
-  move-goes Suspended old = moveOn-goes true old
+  move-goes Activated old = executing-goes Activated refl refl refl old
+  move-goes Suspended old = executing-goes Suspended refl refl refl old
   move-goes Completed old = itself (cutOff old)
   move-goes Aborted old = itself (cutOff old)
   move-goes Rejected old = itself (cutOff old)

@@ -89,6 +89,7 @@ chosen-counts :
     (old : PlanState) → (body ≡ AnyOrder → old ≡ Ready → b ≡ c)
     → move parent (ordersOf body again isNext gate b) e x lost mayComplete old
     ≡ move parent (ordersOf body again isNext gate c) e x lost mayComplete old
+unfolding move
 chosen-counts parent e x l m Leaf again n g b c old h = refl
 chosen-counts parent e x l m Sequential again n g b c old h = refl
 chosen-counts parent e x l m Parallel again n g b c old h = refl
@@ -102,6 +103,14 @@ chosen-counts parent e x l m AnyOrder again n g b c Suspended h = refl
 chosen-counts parent e x l m AnyOrder again n g b c Completed h = refl
 chosen-counts parent e x l m AnyOrder again n g b c Aborted h = refl
 chosen-counts parent e x l m AnyOrder again n g b c Rejected h = refl
+
+-- and under an any-order plan that stays Activated a Ready child is then Activated exactly where it is the one
+ready-shows :
+    (e : PlanEntry) (x : ℕ) (lost mayComplete again isNext gate b : Bool)
+    → is Activated (move Activated (ordersOf AnyOrder again isNext gate b) e x lost mayComplete Ready) ≡ b
+unfolding move
+ready-shows e x lost mayComplete again isNext gate true = refl
+ready-shows e x lost mayComplete again isNext gate false = refl
 
 -- Where a plan may choose, and what it then shows of a Ready child.
 pub record Chooses (t s : List ℕ) (now : PlanState) (q : ℕ) : Type 0 where
@@ -144,8 +153,6 @@ module _ (t s w : List ℕ) (now : PlanState) (q p : ℕ) where
   shows-chosen choice c r =
       let was = is-it Activated (stateAt s q) (left (is Activated (stateAt s q)) (is Activated now) (c .stays)) in
       let still = is-it Activated now (right (is Activated (stateAt s q)) (is Activated now) (c .stays)) in
-      rw (still, was, r, c .body, is-true (mayActivate t s q) (c .free)) (go (eqb p (choice q)))
-    where
-      go : (b : Bool) → is Activated (cond b Activated Ready) ≡ b
-      go true = refl
-      go false = refl
+      rw (still, was, r, c .body, is-true (mayActivate t s q) (c .free))
+      (ready-shows (entry t p) (word w p) (tooManyLost t s p) (childrenComplete t s p) (retryAborted (entry t q))
+      (eqb p (firstNotDone t s q)) (gateOpen t s q) (eqb p (choice q)))

@@ -1,27 +1,19 @@
 -- How one plan's move comes from what is known of it and of its parent. Assumes nothing.
-use Prim.Native.Nat.{ℕ, zero, suc, _<_}
+use Prim.Native.Nat.{ℕ, zero, suc, _+_, _*_, _≤_, _<_}
 use native.Mathlib.Omega.{arith}
-use mathlib.Core.Path.{_≡_, refl, sym, ap, _∙_}
-use mathlib.Core.Bool.{Bool, true, false, cond, _&&_, _||_, true≢false}
+use mathlib.Core.Path.{_≡_, refl, sym}
+use mathlib.Core.Bool.{Bool, true, false, _&&_, _||_}
 use mathlib.Core.List.{List, [], _∷_}
-use lib.Dec.{eqb, eqb-refl}
+use denote.Enum.Declared.{tagOf}
+use types.Run.{OneOf, miss}
+use lib.Dec.{eqb-refl}
+use lib.ListN.{length}
 use Rattle.rules.specs.Bytes.{byteAt}
-use Rattle.rules.specs.States.{stateOf, stateAt, oneOf, is, inSelection, inExecution, ended}
+use Rattle.rules.specs.States.{code, stateOf, stateAt, is, inSelection, ended}
 use Rattle.rules.specs.Table.{planCount, parent, entry}
 use Rattle.rules.specs.Words.{word}
 use Rattle.rules.specs.Demands.{SubPlan}
-use Rattle.rules.specs.Step.{
-  moveOn,
-  cutOff,
-  move,
-  tooManyLost,
-  childrenComplete,
-  orders,
-  none,
-  moveOf,
-  ordersIf,
-  newState,
-}
+use Rattle.rules.specs.Step.{move, tooManyLost, childrenComplete, orders, none, moveOf, ordersIf, newState}
 use Rattle.rules.specs.declared.PlanEntry.{PlanEntry}
 use Rattle.rules.specs.declared.Orders.{Orders}
 use Rattle.rules.specs.declared.PlanState.{PlanState}
@@ -36,104 +28,10 @@ use Rattle.rules.specs.declared.PlanState.the-variants.{
   Aborted,
   Rejected,
 }
+use Rattle.rules.proofs.PlanState as declared
 use Rattle.rules.proofs.Codes.{state-is}
-use Rattle.moves.specs.declared.ByParent.the-variants.{Settled, Open}
-use Rattle.moves.specs.Parents.{parentState, ordersAt, takesOrders, byParent}
-
--- the move, from what equals its parts
-pub same-move :
-    (x : ℕ) (old : PlanState) {held held′ : Bool} {o o′ : Orders} {e e′ : PlanEntry} {lost lost′ complete complete′ : Bool}
-    → held ≡ held′ → o ≡ o′ → e ≡ e′ → lost ≡ lost′ → complete ≡ complete′
-    → moveOn held o e x lost complete old ≡ moveOn held′ o′ e′ x lost′ complete′ old
-same-move x old a b c d f = rw (a, b, c, d, f)
-
--- a plan that is not in execution moves alike, whatever its children are at
-pub idle-move :
-    (held : Bool) (o : Orders) (e : PlanEntry) (x : ℕ) (lost complete : Bool) (old : PlanState)
-    → moveOn held o e x (inExecution old && lost) (inExecution old && complete) old ≡ moveOn held o e x lost complete old
-idle-move held o e x lost complete Inactive = refl
-idle-move held o e x lost complete Considered = refl
-idle-move held o e x lost complete Possible = refl
-idle-move held o e x lost complete Ready = refl
-idle-move held o e x lost complete Activated = refl
-idle-move held o e x lost complete Suspended = refl
-idle-move held o e x lost complete Completed = refl
-idle-move held o e x lost complete Aborted = refl
-idle-move held o e x lost complete Rejected = refl
-
--- one that is not Inactive, Ready or Aborted moves alike under all orders
-free-move :
-    (held : Bool) (o o′ : Orders) (e : PlanEntry) (x : ℕ) (lost complete : Bool) (old : PlanState)
-    → takesOrders old ≡ false → moveOn held o e x lost complete old ≡ moveOn held o′ e x lost complete old
-free-move held o o′ e x lost complete Inactive h = absurd (true≢false h)
-free-move held o o′ e x lost complete Considered h = refl
-free-move held o o′ e x lost complete Possible h = refl
-free-move held o o′ e x lost complete Ready h = absurd (true≢false h)
-free-move held o o′ e x lost complete Activated h = refl
-free-move held o o′ e x lost complete Suspended h = refl
-free-move held o o′ e x lost complete Completed h = refl
-free-move held o o′ e x lost complete Aborted h = absurd (true≢false h)
-free-move held o o′ e x lost complete Rejected h = refl
-
--- so orders may be left out where they are not taken
-pub orders-left-out :
-    (root : Bool) (held : Bool) (o : Orders) (e : PlanEntry) (x : ℕ) (lost complete : Bool) (old : PlanState)
-    → moveOn held (cond (root || takesOrders old) o none) e x lost complete old
-    ≡ moveOn held o e x lost complete old
-orders-left-out true held o e x lost complete old = refl
-orders-left-out false held o e x lost complete old = go (takesOrders old) refl
-  where
-    go :
-        (taken : Bool) → takesOrders old ≡ taken
-        → moveOn held (cond taken o none) e x lost complete old ≡ moveOn held o e x lost complete old
-    go true h = refl
-    go false h = free-move held none o e x lost complete old h
-
--- a Completed or Rejected plan keeps its state, as if it were cut off
-abbrev over : PlanState → Bool
-over old = oneOf (Completed ∷ Rejected ∷ []) old
-
-kept :
-    (held : Bool) (o : Orders) (e : PlanEntry) (x : ℕ) (lost complete : Bool) (old : PlanState) → over old ≡ true
-    → cutOff old ≡ moveOn held o e x lost complete old
-kept held o e x lost complete Inactive h = absurd (true≢false (sym h))
-kept held o e x lost complete Considered h = absurd (true≢false (sym h))
-kept held o e x lost complete Possible h = absurd (true≢false (sym h))
-kept held o e x lost complete Ready h = absurd (true≢false (sym h))
-kept held o e x lost complete Activated h = absurd (true≢false (sym h))
-kept held o e x lost complete Suspended h = absurd (true≢false (sym h))
-kept held o e x lost complete Completed h = refl
-kept held o e x lost complete Aborted h = absurd (true≢false (sym h))
-kept held o e x lost complete Rejected h = refl
-
--- a state that is settled without a look at the tree is the move's; where it is open, the parent is in execution
-module _ (parent : PlanState) (o : Orders) (e : PlanEntry) (x : ℕ) (lost complete : Bool) (old : PlanState) where
-  abbrev live : PlanState
-  live = moveOn (is Suspended parent) o e x lost complete old
-
-  pub settled-move : (r : PlanState) → byParent parent old ≡ Settled r → r ≡ move parent o e x lost complete old
-  unfolding byParent
-  settled-move r = go (is Inactive parent || inSelection parent) (ended parent) (over old) refl
-    where
-      go :
-          (dormant ends keeps : Bool) → over old ≡ keeps
-          → cond dormant (Settled Inactive) (cond (ends || keeps) (Settled (cutOff old)) Open) ≡ Settled r
-          → r ≡ cond dormant Inactive (cond ends (cutOff old) live)
-      go true ends keeps k h = cc
-      go false true keeps k h = cc
-      go false false true k h = let same : cutOff old ≡ r = cc in sym same ∙ kept (is Suspended parent) o e x lost complete old k
-      go false false false k h = let z : _≡_ {A = ℕ} 0 1 = cc in absurd (omega arith)
-
-  pub open-move : byParent parent old ≡ Open → live ≡ move parent o e x lost complete old
-  unfolding byParent
-  open-move = go (is Inactive parent || inSelection parent) (ended parent) (over old)
-    where
-      go :
-          (dormant ends keeps : Bool) → cond dormant (Settled Inactive) (cond (ends || keeps) (Settled (cutOff old)) Open) ≡ Open
-          → live ≡ cond dormant Inactive (cond ends (cutOff old) live)
-      go true ends keeps h = let z : _≡_ {A = ℕ} 0 1 = cc in absurd (omega arith)
-      go false true keeps h = let z : _≡_ {A = ℕ} 0 1 = cc in absurd (omega arith)
-      go false false keeps h = refl
+use Rattle.moves.specs.Parents.{parentState, ordersAt}
+use Rattle.moves.specs.StepFacts.{StepFacts, Names, MoveFacts}
 
 pub child-of : (t : List ℕ) (q p : ℕ) → 0 < p → p < planCount t → q ≡ parent t p → SubPlan t q p
 child-of t q zero h l e = absurd (omega arith)
@@ -170,25 +68,48 @@ module _ (t s w : List ℕ) (choice : ℕ → ℕ) where
   new-state new zero = refl
   new-state new (suc p) = refl
 
-  -- the same from what the code has in hand: where the parent's new state settles it, and where it is open
-  module _ (new : List ℕ) (p : ℕ) (after old r : PlanState) (ea : after ≡ parentState t new p) (eo : old ≡ stateAt s p) where
-    pub settled-state : byParent after old ≡ Settled r → r ≡ newState t s w choice new p
-    settled-state e =
-        settled-move after (ordersAt t s w choice after p) (entry t p) (word w p) (tooManyLost t s p) (childrenComplete t s p) old
-        r e
-        ∙ rw (ea, eo) (sym (new-state new p))
+  -- and as a move, from what the code has in hand
+  pub as-move :
+      (new : List ℕ) (p : ℕ) (up old : PlanState) → up ≡ parentState t new p → old ≡ stateAt s p
+      → newState t s w choice new p
+      ≡ move up (ordersAt t s w choice up p) (entry t p) (word w p) (tooManyLost t s p) (childrenComplete t s p) old
+  as-move new p up old eu eo = rw (eu, eo) (new-state new p)
 
-    pub open-state :
-        (x : ℕ) (o : Orders) → x ≡ word w p → o ≡ cond (eqb p 0 || takesOrders old) (ordersAt t s w choice after p) none
-        → byParent after old ≡ Open
-        → r ≡ moveOn (is Suspended after) o (entry t p) x (tooManyLost t s p) (childrenComplete t s p) old
-        → r ≡ newState t s w choice new p
-    open-state x o ex oo opened er =
-        er
-        ∙ ap
-        (λ (z : Orders). moveOn (is Suspended after) z (entry t p) x (tooManyLost t s p) (childrenComplete t s p) old)
-        oo
-        ∙ orders-left-out (eqb p 0) (is Suspended after) (ordersAt t s w choice after p) (entry t p) x (tooManyLost t s p)
-        (childrenComplete t s p) old
-        ∙ open-move after (ordersAt t s w choice after p) (entry t p) x (tooManyLost t s p) (childrenComplete t s p) old opened
-        ∙ rw (ea, eo, ex) (sym (new-state new p))
+-- under a parent in execution a Completed or Rejected plan stays
+abbrev overKeys : List ℕ
+overKeys = code Completed ∷ code Rejected ∷ []
+
+module _
+    (up : PlanState) (o : Orders) (e : PlanEntry) (x : ℕ) (lost complete : Bool)
+    (begun : (is Inactive up || inSelection up) ≡ false) (goes-on : ended up ≡ false) where
+  pub over-stays : (old : PlanState) → OneOf overKeys (tagOf declared.the-type old) → move up o e x lost complete old ≡ old
+  unfolding move
+  over-stays Inactive h = absurd (miss overKeys 0 tt h)
+  over-stays Considered h = absurd (miss overKeys 1 tt h)
+  over-stays Possible h = absurd (miss overKeys 2 tt h)
+  over-stays Ready h = absurd (miss overKeys 3 tt h)
+  over-stays Activated h = absurd (miss overKeys 4 tt h)
+  over-stays Suspended h = absurd (miss overKeys 5 tt h)
+  over-stays Completed h = rw (begun, goes-on) refl
+  over-stays Aborted h = absurd (miss overKeys 7 tt h)
+  over-stays Rejected h = rw (begun, goes-on) refl
+
+-- all that the move of a plan reads, from what is known of all plans
+pub move-facts :
+    (t s ranks names sets picks w new : List ℕ) → StepFacts t s ranks sets picks → Names t names → (p : ℕ) → p < planCount t
+    → p ≤ length new → 4 * p + 4 ≤ length w → MoveFacts t s ranks names sets picks w new p
+move-facts t s ranks names sets picks w new facts named p within new-room word-room =
+    let entry-room : 8 * p + 16 ≤ length t = omega (arith, facts .long) in
+    record {
+      facts = facts;
+      within = within;
+      own = record { entry-room = entry-room; word-room = word-room };
+      children =
+          record {
+            entry-room = entry-room;
+            names-room = omega (arith, named .room);
+            collected = named .collected p within;
+            has-words = record { small = omega (arith, facts .small); sets-room = omega (arith, facts .sets-room) };
+          };
+      parent-room = λ h. omega (arith, facts .down p h within);
+    }

@@ -6,7 +6,7 @@ use lib.ListN.{length, getD}
 use Rattle.rules.specs.Bytes.{byteAt}
 use Rattle.rules.specs.Table.{planCount, parent, entry, named, rank}
 use Rattle.children.specs.Sets.{setOf}
-use Rattle.moves.specs.ChildWords.{ChildWords}
+use Rattle.moves.specs.ChildWords.{HasWords, ChildWords}
 
 -- the picks that a list holds, a byte for each plan
 abbrev pub picksOf : List ℕ → ℕ → ℕ
@@ -31,3 +31,23 @@ pub record StepFacts (t s ranks sets picks : List ℕ) : Type 0 where
 pub record Names (t names : List ℕ) : Type 0 where
   pub room : planCount t ≤ length names
   pub collected : (q : ℕ) → q < planCount t → getD names q 0 ≡ setOf t q (λ c. named (entry t c))
+
+-- plan p's entry and word have their place
+pub record OwnBytes (t w : List ℕ) (p : ℕ) : Type 0 where
+  pub entry-room : 8 * p + 16 ≤ length t
+  pub word-room : 4 * p + 4 ≤ length w
+
+-- plan p's entry, the word of its named children and the words of its children by state have theirs
+pub record OwnChildren (t names sets : List ℕ) (p : ℕ) : Type 0 where
+  pub entry-room : 8 * p + 16 ≤ length t
+  pub names-room : p < length names
+  pub collected : getD names p 0 ≡ setOf t p (λ c. named (entry t c))
+  pub has-words : HasWords sets p
+
+-- all that the move of plan p reads, where `new` has the new states of the plans before it
+pub record MoveFacts (t s ranks names sets picks w new : List ℕ) (p : ℕ) : Type 0 where
+  pub facts : StepFacts t s ranks sets picks
+  pub within : p < planCount t
+  pub own : OwnBytes t w p
+  pub children : OwnChildren t names sets p
+  pub parent-room : 0 < p → parent t p < length new

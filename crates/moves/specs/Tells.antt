@@ -2,31 +2,19 @@
 -- words are of. What other words would mean is nobody's question. Assumes nothing.
 use Prim.Native.Nat.{ℕ}
 use mathlib.Core.Path.{_≡_}
-use mathlib.Core.Bool.{Bool, _&&_}
+use mathlib.Core.Bool.{Bool}
 use mathlib.Core.List.{List}
 use lib.Dec.{eqb}
 use Rattle.rules.specs.Lists.{all}
 use Rattle.rules.specs.States.{stateAt, oneOf, is, ended}
 use Rattle.rules.specs.Table.{entry, named, retryAborted, children, rank}
 use Rattle.rules.specs.Demands.{SubPlan}
-use Rattle.rules.specs.Step.{
-  moveOn,
-  tooManyLost,
-  childrenComplete,
-  firstNotDone,
-  gateOpen,
-  mayActivate,
-  chosen,
-  orders,
-  ordersIf,
-}
+use Rattle.rules.specs.Step.{tooManyLost, childrenComplete, firstNotDone, gateOpen, mayActivate, chosen, orders, ordersIf}
 use Rattle.rules.specs.declared.PlanEntry.{PlanEntry}
 use Rattle.rules.specs.declared.Orders.{Orders}
 use Rattle.rules.specs.declared.PlanState.{PlanState}
-use Rattle.rules.specs.declared.PlanState.the-variants.{Suspended}
 use Rattle.children.specs.Sets.{setOf}
 use Rattle.moves.specs.ChildWords.{ChildWords}
-use Rattle.moves.specs.declared.Said.{Said}
 
 -- e is the entry of plan q, and names the word of its named children
 pub record OwnEntry (t : List ℕ) (q : ℕ) (e : PlanEntry) (names : ℕ) : Type 0 where
@@ -63,12 +51,6 @@ module _ (sets : List ℕ) (q : ℕ) where
       (t s : List ℕ) (picks : ℕ → ℕ) (p : ℕ) → ChildWords t s q sets → SubPlan t q p → picks q ≡ pick
       → eqb (rank t p) r ≡ eqb p (chosen t s picks q)
 
-  -- whether the child of a rank, in a state, is the one that is chosen under a pick
-  abbrev pub TellsPicked : PlanState → ℕ → ℕ → Bool → Type 0
-  TellsPicked state k pick r =
-      (t s : List ℕ) (picks : ℕ → ℕ) (p : ℕ) → ChildWords t s q sets → RankedChild t q p k → picks q ≡ pick
-      → state ≡ stateAt s p → r ≡ eqb p (chosen t s picks q)
-
   -- what q orders its child of a rank, `isChosen` saying whether that is the chosen one; and given q's states before and after
   abbrev pub TellsOrders : PlanEntry → ℕ → Bool → Orders → Type 0
   TellsOrders e k isChosen r =
@@ -88,21 +70,9 @@ module _ (sets : List ℕ) (q : ℕ) where
   abbrev pub TellsAllEnded : Bool → Type 0
   TellsAllEnded r = (t s : List ℕ) → ChildWords t s q sets → r ≡ all (λ c. ended (stateAt s c)) (children t q)
 
-  -- whether too many children are lost, and whether they let q complete
-  abbrev pub TellsLost : PlanEntry → ℕ → Bool → Type 0
-  TellsLost e names r = (t s : List ℕ) → ChildWords t s q sets → OwnEntry t q e names → r ≡ tooManyLost t s q
+  -- whether too many children of q in the table t are lost, and whether they let q complete
+  abbrev pub TellsLost : List ℕ → Bool → Type 0
+  TellsLost t r = (s : List ℕ) → ChildWords t s q sets → r ≡ tooManyLost t s q
 
-  abbrev pub TellsComplete : PlanEntry → ℕ → Bool → Type 0
-  TellsComplete e names r = (t s : List ℕ) → ChildWords t s q sets → OwnEntry t q e names → r ≡ childrenComplete t s q
-
-  -- both where they count: of a plan in execution
-  abbrev pub TellsSaid : Bool → PlanEntry → ℕ → Said → Type 0
-  TellsSaid executing e names r =
-      (t s : List ℕ) → ChildWords t s q sets → OwnEntry t q e names
-      → (r .lost ≡ (executing && tooManyLost t s q)) × (r .complete ≡ (executing && childrenComplete t s q))
-
-  -- the move of q under a parent in execution, by its orders, word and old state and by what its children say
-  abbrev pub TellsMove : PlanEntry → ℕ → Orders → ℕ → PlanState → PlanState → PlanState → Type 0
-  TellsMove e names o x old after r =
-      (t s : List ℕ) → ChildWords t s q sets → OwnEntry t q e names
-      → r ≡ moveOn (is Suspended after) o (entry t q) x (tooManyLost t s q) (childrenComplete t s q) old
+  abbrev pub TellsComplete : List ℕ → Bool → Type 0
+  TellsComplete t r = (s : List ℕ) → ChildWords t s q sets → r ≡ childrenComplete t s q

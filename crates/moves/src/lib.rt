@@ -1,21 +1,21 @@
 // The next state of one plan: what its children say, what its parent orders it to do, and the move. Document 01, 'One step'.
 // Every function here costs O(1). Assumes a table that has passed its checks and the words of its plans' children (`StepFacts`).
 ghost use mathlib.Core.Path.{_≡_};
-ghost use mathlib.Core.Bool.{cond, _||_};
 ghost use Prim.Native.Nat.{ℕ, _+_, _*_, _<_, _≤_};
 ghost use lib.ListN.{length, getD};
-ghost use lib.Dec.{eqb};
 ghost use mathlib.Core.List.{List, [], _∷_};
-ghost use Rattle.rules.specs.States.{code, stateAt};
-ghost use Rattle.rules.specs.Table.{planCount, parent};
+ghost use Rattle.rules.specs.States.{code};
+ghost use Rattle.rules.specs.Table.{planCount, parent, entry};
+ghost use Rattle.rules.specs.Words.{word};
+ghost use Rattle.rules.specs.Words.{holds as Words·holds, satisfiable as Words·satisfiable};
 ghost use Rattle.rules.specs.declared.PlanState.the-variants.{Inactive, Considered, Possible, Activated, Suspended};
-ghost use Rattle.rules.specs.Step.{moveOn, cutOff, none, rootOrders, ordersOf, newState};
+ghost use Rattle.rules.specs.Step.{none, rootOrders, ordersOf, newState};
 ghost use Rattle.rules.specs.Step.{chosen as Step·chosen};
 ghost use Rattle.moves.specs.ChildWords.{HasWords};
-ghost use Rattle.moves.specs.Tells.{TellsFirstNotDone, TellsGate, TellsMayActivate, TellsChosenRank, TellsPicked, TellsOrders};
-ghost use Rattle.moves.specs.Tells.{TellsOrdersIf, TellsAllEnded, TellsLost, TellsComplete, TellsSaid, TellsMove, TellsWord};
-ghost use Rattle.moves.specs.Parents.{parentState, ordersAt, takesOrders, byParent};
-ghost use Rattle.moves.specs.StepFacts.{picksOf, StepFacts, Names};
+ghost use Rattle.moves.specs.Tells.{TellsFirstNotDone, TellsGate, TellsMayActivate, TellsChosenRank, TellsOrders, TellsOrdersIf};
+ghost use Rattle.moves.specs.Tells.{TellsAllEnded, TellsLost, TellsComplete, TellsWord};
+ghost use Rattle.moves.specs.Parents.{parentState, ordersAt};
+ghost use Rattle.moves.specs.StepFacts.{picksOf, StepFacts, OwnBytes, OwnChildren, MoveFacts};
 use reading::entry_at;
 use reading::parent_at;
 use reading::word_at;
@@ -25,8 +25,13 @@ use rules::Orders;
 use rules::PlanEntry;
 use rules::PlanState;
 
-// The new state of plan p in a step from `old`, where `new` has the new states of the plans before it. `sets` has the words of the old
-// states, `picks` the rank that each any-order plan picks. Plans move in table order, so a parent has moved before its children.
+// The new state of plan p: document 01's list, 'By the parent's new state', from the top; of several lines for one state the first that
+// fits. docs/MOVE.md lays list, definition and code side by side. What a line needs to know is asked for in its test.
+// To read it beside the list: `parent` is the parent's new state, `state` the plan's old one. Left of `=>` stands what the plan was. What
+// stands alone, or behind `return`, is what it becomes, `state` where it stays. In a test `|` is or, `&` is and, `!` is not.
+// `table` has the plans' entries, `ranks` their ranks among their siblings, `names` the named children of each, `sets` its children by
+// old state, `picks` the rank that it picks, `words` the input words; `old` has the states before the step, `new` the new states of the
+// plans before p. Its parent is one of these: parents stand before their children, and plans move in table order.
 pub fn next_state(
     table: &[u8],
     ranks: &[u8],
@@ -38,25 +43,97 @@ pub fn next_state(
     new: &[u8],
     p: usize,
 ) -> PlanState
-    requires facts { ⌜ StepFacts (now table) (now old) (now ranks) (now sets) (now picks) ⌝ }
-    requires names { ⌜ Names (now table) (now names) ⌝ }
-    requires plan { ⌜ (p < planCount (now table)) × (p ≤ length (now new)) × (4 * p + 4 ≤ length (now words)) ⌝ }
+    requires { ⌜ MoveFacts (now table) (now old) (now ranks) (now names) (now sets) (now picks) (now words) (now new) p ⌝ }
     ensures { λ r. ⌜ r ≡ newState (now (table .entry)) (now (old .entry)) (now (words .entry))
         (Step·chosen (now (table .entry)) (now (old .entry)) (picksOf (now (picks .entry)))) (now (new .entry)) p ⌝ }
 {
-    let after = parent_state(table, new, p);
+    let parent = parent_state(table, new, p);
     let state = PlanState::from_byte(old[p]);
-    match by_parent(after, state) {
-        ByParent::Settled(next) => next,
-        ByParent::Open => {
-            let o = orders_for(table, ranks, sets, picks, old, p, state, after);
-            let word = word_at(words, p);
-            moved(entry_at(table, p), names[p], sets, p, o, word, state, after)
+    // by the parent's new state: Inactive or selection
+    if parent.is(PlanState::Inactive) | parent.in_selection() {
+        return PlanState::Inactive;
+    }
+    // ended
+    if parent.is_ended() {
+        if state.in_selection() {
+            return PlanState::Rejected;
+        }
+        if state.in_execution() {
+            return PlanState::Aborted;
+        }
+        return state;
+    }
+    // Activated or Suspended: by the plan's old state
+    match state {
+        PlanState::Inactive => {
+            if orders(table, ranks, sets, picks, old, parent, p).considers {
+                PlanState::Considered
+            } else {
+                state
+            }
+        }
+        PlanState::Considered => {
+            if holds(Condition::Filter, table, words, p) {
+                PlanState::Possible
+            } else if !satisfiable(Condition::Filter, table, words, p) {
+                PlanState::Rejected
+            } else {
+                state
+            }
+        }
+        PlanState::Possible => {
+            if holds(Condition::Setup, table, words, p) {
+                PlanState::Ready
+            } else if !satisfiable(Condition::Setup, table, words, p) {
+                PlanState::Rejected
+            } else {
+                state
+            }
+        }
+        PlanState::Ready => {
+            if orders(table, ranks, sets, picks, old, parent, p).activates {
+                PlanState::Activated
+            } else {
+                state
+            }
+        }
+        PlanState::Activated => {
+            if holds(Condition::Abort, table, words, p) | too_many_lost(table, names, sets, p) {
+                PlanState::Aborted
+            } else if parent.is(PlanState::Suspended) | holds(Condition::Suspend, table, words, p) {
+                PlanState::Suspended
+            } else if holds(Condition::Complete, table, words, p)
+                & may_complete(table, names, sets, p)
+            {
+                PlanState::Completed
+            } else {
+                state
+            }
+        }
+        PlanState::Suspended => {
+            if holds(Condition::Abort, table, words, p) | too_many_lost(table, names, sets, p) {
+                PlanState::Aborted
+            } else if parent.is(PlanState::Activated)
+                & holds(Condition::Reactivate, table, words, p)
+            {
+                PlanState::Activated
+            } else {
+                state
+            }
+        }
+        // ended
+        PlanState::Completed | PlanState::Rejected => state,
+        PlanState::Aborted => {
+            if orders(table, ranks, sets, picks, old, parent, p).retries {
+                PlanState::Considered
+            } else {
+                state
+            }
         }
     }
 }
 
-// The state of plan p's parent among states. The root acts as if under a parent that stays Activated.
+// The state of plan p's parent among states, here the new ones. The root acts as if under a parent that stays Activated.
 fn parent_state(table: &[u8], states: &[u8], p: usize) -> PlanState
     requires { ⌜ (8 * p + 16 ≤ length (now table)) × (0 < p → parent (now table) p < length (now states)) ⌝ }
     ensures { λ r. ⌜ r ≡ parentState (now (table .entry)) (now (states .entry)) p ⌝ }
@@ -68,186 +145,40 @@ fn parent_state(table: &[u8], states: &[u8], p: usize) -> PlanState
     PlanState::from_byte(states[q])
 }
 
-// What a plan's new state is without a look at the tree, or that it is open.
-enum ByParent {
-    Settled(PlanState),
-    Open,
-}
-
-// The new state of a plan under a parent that has not begun or has ended, and of one that is Completed or Rejected, which nothing but
-// such a parent changes. Most plans of a tree stand so: this is asked first.
-fn by_parent(after: PlanState, old: PlanState) -> ByParent
-    ensures { λ r. ⌜ r ≡ byParent after old ⌝ }
+// Whether a condition of plan p holds, by the plan's entry and input word.
+fn holds(c: Condition, table: &[u8], words: &[u8], p: usize) -> bool
+    requires { ⌜ OwnBytes (now table) (now words) p ⌝ }
+    ensures { λ r. ⌜ r ≡ Words·holds c (entry (now (table .entry)) p) (word (now (words .entry)) p) ⌝ }
 {
-    if after.is(PlanState::Inactive) | after.in_selection() {
-        return ByParent::Settled(PlanState::Inactive);
-    }
-    let b = old.to_byte();
-    if after.is_ended() | ((b == PlanState::COMPLETED) | (b == PlanState::REJECTED)) {
-        return ByParent::Settled(cut_off(old));
-    }
-    ByParent::Open
+    entry_at(table, p).holds(c, word_at(words, p))
 }
 
-// The new state of plan p, whose entry is e, under a parent in execution, by what it is ordered and what its children say.
-fn moved(
-    e: PlanEntry,
-    names: u64,
-    sets: &[u64],
-    p: usize,
-    o: Orders,
-    x: u32,
-    state: PlanState,
-    after: PlanState,
-) -> PlanState
-    requires { ⌜ HasWords (now sets) p ⌝ }
-    ensures { λ r. ⌜ TellsMove (now (sets .entry)) p e names o x state after r ⌝ }
+// Whether a condition of plan p is satisfiable, likewise.
+fn satisfiable(c: Condition, table: &[u8], words: &[u8], p: usize) -> bool
+    requires { ⌜ OwnBytes (now table) (now words) p ⌝ }
+    ensures { λ r. ⌜ r ≡ Words·satisfiable c (entry (now (table .entry)) p) (word (now (words .entry)) p) ⌝ }
 {
-    let said = children_say(state.in_execution(), e, names, sets, p);
-    moved_on(
-        after.is(PlanState::Suspended),
-        o,
-        e,
-        x,
-        said.lost,
-        said.complete,
-        state,
-    )
+    entry_at(table, p).satisfiable(c, word_at(words, p))
 }
 
-// The move of one plan under a parent in execution, by its old state. `held` says that the parent is Suspended. It knows no tree.
-fn moved_on(
-    held: bool,
-    o: Orders,
-    e: PlanEntry,
-    x: u32,
-    lost: bool,
-    complete: bool,
-    old: PlanState,
-) -> PlanState
-    ensures { λ r. ⌜ r ≡ moveOn held o e x lost complete old ⌝ }
+// Whether too many children of plan p are lost: wait-for fails of those whose old state is neither Rejected nor Aborted.
+fn too_many_lost(table: &[u8], names: &[u64], sets: &[u64], p: usize) -> bool
+    requires { ⌜ OwnChildren (now table) (now names) (now sets) p ⌝ }
+    ensures { λ r. ⌜ TellsLost (now (sets .entry)) p (now (table .entry)) r ⌝ }
 {
-    match old {
-        PlanState::Inactive => {
-            if o.considers {
-                PlanState::Considered
-            } else {
-                PlanState::Inactive
-            }
-        }
-        PlanState::Considered => {
-            if e.holds(Condition::Filter, x) {
-                PlanState::Possible
-            } else if !e.satisfiable(Condition::Filter, x) {
-                PlanState::Rejected
-            } else {
-                PlanState::Considered
-            }
-        }
-        PlanState::Possible => {
-            if e.holds(Condition::Setup, x) {
-                PlanState::Ready
-            } else if !e.satisfiable(Condition::Setup, x) {
-                PlanState::Rejected
-            } else {
-                PlanState::Possible
-            }
-        }
-        PlanState::Ready => {
-            if o.activates {
-                PlanState::Activated
-            } else {
-                PlanState::Ready
-            }
-        }
-        PlanState::Activated => {
-            if e.holds(Condition::Abort, x) | lost {
-                PlanState::Aborted
-            } else if held | e.holds(Condition::Suspend, x) {
-                PlanState::Suspended
-            } else if e.holds(Condition::Complete, x) & complete {
-                PlanState::Completed
-            } else {
-                PlanState::Activated
-            }
-        }
-        PlanState::Suspended => {
-            if e.holds(Condition::Abort, x) | lost {
-                PlanState::Aborted
-            } else if !held & e.holds(Condition::Reactivate, x) {
-                PlanState::Activated
-            } else {
-                PlanState::Suspended
-            }
-        }
-        PlanState::Completed => PlanState::Completed,
-        PlanState::Aborted => {
-            if o.retries {
-                PlanState::Considered
-            } else {
-                PlanState::Aborted
-            }
-        }
-        PlanState::Rejected => PlanState::Rejected,
-    }
-}
-
-// The new state of a plan under an ended parent.
-fn cut_off(old: PlanState) -> PlanState
-    ensures { λ r. ⌜ r ≡ cutOff old ⌝ }
-{
-    match old {
-        PlanState::Inactive => PlanState::Inactive,
-        PlanState::Considered => PlanState::Rejected,
-        PlanState::Possible => PlanState::Rejected,
-        PlanState::Ready => PlanState::Rejected,
-        PlanState::Activated => PlanState::Aborted,
-        PlanState::Suspended => PlanState::Aborted,
-        PlanState::Completed => PlanState::Completed,
-        PlanState::Aborted => PlanState::Aborted,
-        PlanState::Rejected => PlanState::Rejected,
-    }
-}
-
-// What a plan is told by its children: that too many are lost, that they let it complete.
-struct Said {
-    lost: bool,
-    complete: bool,
-}
-
-// What the children tell, where that counts: a plan that is not in execution does not look at them.
-fn children_say(executing: bool, e: PlanEntry, names: u64, sets: &[u64], p: usize) -> Said
-    requires { ⌜ HasWords (now sets) p ⌝ }
-    ensures { λ r. ⌜ TellsSaid (now (sets .entry)) p executing e names r ⌝ }
-{
-    if !executing {
-        return Said {
-            lost: false,
-            complete: false,
-        };
-    }
-    Said {
-        lost: too_many_lost(e, names, sets, p),
-        complete: children_complete(e, names, sets, p),
-    }
-}
-
-// Whether too many children of plan p, whose entry is e, are lost.
-fn too_many_lost(e: PlanEntry, names: u64, sets: &[u64], p: usize) -> bool
-    requires { ⌜ HasWords (now sets) p ⌝ }
-    ensures { λ r. ⌜ TellsLost (now (sets .entry)) p e names r ⌝ }
-{
+    let named = names[p];
     let lost = in_state(sets, p, PlanState::Rejected) | in_state(sets, p, PlanState::Aborted);
-    !e.wait_for(names - (names & lost))
+    !entry_at(table, p).wait_for(named - (named & lost))
 }
 
-// Whether the children of plan p, whose entry is e, let it complete.
-fn children_complete(e: PlanEntry, names: u64, sets: &[u64], p: usize) -> bool
-    requires { ⌜ HasWords (now sets) p ⌝ }
-    ensures { λ r. ⌜ TellsComplete (now (sets .entry)) p e names r ⌝ }
+// Whether the children of plan p, by their old states, let it complete: wait-for holds of the Completed ones, and, with
+// wait-for-optional, all are ended.
+fn may_complete(table: &[u8], names: &[u64], sets: &[u64], p: usize) -> bool
+    requires { ⌜ OwnChildren (now table) (now names) (now sets) p ⌝ }
+    ensures { λ r. ⌜ TellsComplete (now (sets .entry)) p (now (table .entry)) r ⌝ }
 {
-    let completed = in_state(sets, p, PlanState::Completed);
-    if !e.wait_for(names & completed) {
+    let e = entry_at(table, p);
+    if !e.wait_for(names[p] & in_state(sets, p, PlanState::Completed)) {
         return false;
     }
     if !e.waits_for_optional() {
@@ -266,43 +197,29 @@ fn all_ended(sets: &[u64], p: usize) -> bool
     (waiting | begun) == 0
 }
 
-// Whether a plan in a state moves by orders: it is Inactive, Ready or Aborted.
-fn takes_orders(state: PlanState) -> bool
-    ensures { λ r. ⌜ r ≡ takesOrders state ⌝ }
-{
-    let b = state.to_byte();
-    (b == PlanState::INACTIVE) | (b == PlanState::READY) | (b == PlanState::ABORTED)
-}
-
-// What plan p in a state is ordered to do, given its parent's new state: the root as by a parent that stays Activated. One whose state
-// takes no orders is given none, since nothing is worked out for it.
-fn orders_for(
+// What plan p is ordered, given its parent's new state: nothing unless the parent was and stays Activated, and a retry only with
+// retry-aborted. The root acts as if under a parent that considers it when Inactive and activates it when Ready.
+fn orders(
     table: &[u8],
     ranks: &[u8],
     sets: &[u64],
     picks: &[u8],
     old: &[u8],
-    p: usize,
-    state: PlanState,
     after: PlanState,
+    p: usize,
 ) -> Orders
     requires facts { ⌜ StepFacts (now table) (now old) (now ranks) (now sets) (now picks) ⌝ }
-    requires plan { ⌜ (p < planCount (now table)) × (state ≡ stateAt (now old) p) ⌝ }
-    ensures { λ r. ⌜ ((w : List ℕ) → r ≡ cond (eqb p 0 || takesOrders state)
-        (ordersAt (now (table .entry)) (now (old .entry)) w
-        (Step·chosen (now (table .entry)) (now (old .entry)) (picksOf (now (picks .entry)))) after p)
-        none) ⌝ }
+    requires plan { ⌜ p < planCount (now table) ⌝ }
+    ensures { λ r. ⌜ ((w : List ℕ) → r ≡ ordersAt (now (table .entry)) (now (old .entry)) w
+        (Step·chosen (now (table .entry)) (now (old .entry)) (picksOf (now (picks .entry)))) after p) ⌝ }
 {
     if p == 0 {
         return root_orders();
     }
-    if !takes_orders(state) {
-        return no_orders();
-    }
     let q = parent_at(table, p);
     let before = PlanState::from_byte(old[q]);
     let rank = wide(ranks[p]);
-    let chosen = is_picked(state, sets, q, rank, wide(picks[q]));
+    let chosen = rank == chosen_rank(sets, q, wide(picks[q]));
     orders_if(before, after, entry_at(table, q), sets, q, rank, chosen)
 }
 
@@ -385,18 +302,6 @@ fn root_orders() -> Orders
         activates: true,
         retries: false,
     }
-}
-
-// Whether the child of a rank, in a state, is the one that an any-order plan q activates under the pick of its word x. One that is not
-// Ready never is: nothing is worked out for it.
-fn is_picked(state: PlanState, sets: &[u64], q: usize, rank: u32, pick: u32) -> bool
-    requires { ⌜ HasWords (now sets) q × (pick < 64) ⌝ }
-    ensures { λ r. ⌜ TellsPicked (now (sets .entry)) q state rank pick r ⌝ }
-{
-    if !state.is(PlanState::Ready) {
-        return false;
-    }
-    rank == chosen_rank(sets, q, pick)
 }
 
 // The rank of the child that an any-order plan q activates under a pick: the Ready child of that rank, else the lowest Ready one; with

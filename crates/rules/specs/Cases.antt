@@ -14,6 +14,7 @@ use Rattle.rules.specs.States.{stateAt}
 use Rattle.rules.specs.Table.{childrenBefore, children, rank, isOrIsAbove}
 use Rattle.rules.specs.Words.{holds, satisfiable}
 use Rattle.rules.specs.Step.{
+  move,
   tooManyLost,
   childrenComplete,
   firstNotDone,
@@ -329,7 +330,7 @@ table = marked ++ unmarked ++ ourMoves ++ ourRefusals ++ ourShows
 pub rowsHold : allHold table ≡ true
 unfolding
     allHold table T1Of states leaves leastFrom highest stateAt childrenBefore children rank isOrIsAbove holds satisfiable
-    tooManyLost childrenComplete firstNotDone gateOpen mayActivate chosen orders stepFirst stepBy stepUnder step badState
+    move tooManyLost childrenComplete firstNotDone gateOpen mayActivate chosen orders stepFirst stepBy stepUnder step badState
     after leastRest badParent undefinedEntry unfitEntry undefinedByte unfit badWait _andThen_ refuseIf refuseAt headerCheck
     tableCheck badWord callCheck tableVerdict runAnswer runStates lastDescendant subTree decimalTo
 rowsHold = refl

@@ -26,36 +26,27 @@ use Rattle.rules.specs.declared.PlanState.the-variants.{
   Rejected,
 }
 
--- One move. It knows no tree: `parent` is the parent's new state and `o` what the parent orders; `e` and `x` are the plan's entry and
--- word; `lost` says that too many children are lost, `mayComplete` that the children let the plan complete.
-
--- under a parent in execution, by the plan's old state; `held` says that the parent is Suspended
-abbrev pub moveOn : Bool → Orders → PlanEntry → ℕ → Bool → Bool → PlanState → PlanState
-moveOn held o e x lost mayComplete Inactive = cond (o .considers) Considered Inactive
-moveOn held o e x lost mayComplete Considered =
-    cond (holds Filter e x) Possible (cond (not (satisfiable Filter e x)) Rejected Considered)
-moveOn held o e x lost mayComplete Possible =
-    cond (holds Setup e x) Ready (cond (not (satisfiable Setup e x)) Rejected Possible)
-moveOn held o e x lost mayComplete Ready = cond (o .activates) Activated Ready
-moveOn held o e x lost mayComplete Activated =
-    cond (holds Abort e x || lost) Aborted
-    (cond (held || holds Suspend e x) Suspended
-    (cond (holds Complete e x && mayComplete) Completed Activated))
-moveOn held o e x lost mayComplete Suspended =
-    cond (holds Abort e x || lost) Aborted (cond (not held && holds Reactivate e x) Activated Suspended)
-moveOn held o e x lost mayComplete Completed = Completed
-moveOn held o e x lost mayComplete Aborted = cond (o .retries) Considered Aborted
-moveOn held o e x lost mayComplete Rejected = Rejected
-
--- under an ended parent: selection becomes Rejected, execution Aborted, all else stays
-abbrev pub cutOff : PlanState → PlanState
-cutOff old = cond (inSelection old) Rejected (cond (inExecution old) Aborted old)
-
--- by the parent's new state: under Inactive or selection the child becomes Inactive
-abbrev pub move : PlanState → Orders → PlanEntry → ℕ → Bool → Bool → PlanState → PlanState
+-- One move: document 01's list from the top, and of several lines for one state the first that fits. It knows no tree: `parent` is the
+-- parent's new state and `o` what the parent orders; `e` and `x` are the plan's entry and word; `lost` says that too many children are
+-- lost, `mayComplete` that the children let the plan complete.
+unfoldable pub move : PlanState → Orders → PlanEntry → ℕ → Bool → Bool → PlanState → PlanState
 move parent o e x lost mayComplete old =
+    let stays : PlanState = old in
     cond (is Inactive parent || inSelection parent) Inactive
-    (cond (ended parent) (cutOff old) (moveOn (is Suspended parent) o e x lost mayComplete old))
+    (cond (ended parent) (cond (inSelection old) Rejected (cond (inExecution old) Aborted stays))
+    (elim old [
+      | Inactive ↦ cond (o .considers) Considered stays
+      | Considered ↦ cond (holds Filter e x) Possible (cond (not (satisfiable Filter e x)) Rejected stays)
+      | Possible ↦ cond (holds Setup e x) Ready (cond (not (satisfiable Setup e x)) Rejected stays)
+      | Ready ↦ cond (o .activates) Activated stays
+      | Activated ↦
+          cond (holds Abort e x || lost) Aborted
+          (cond (is Suspended parent || holds Suspend e x) Suspended (cond (holds Complete e x && mayComplete) Completed stays))
+      | Suspended ↦ cond (holds Abort e x || lost) Aborted (cond (is Activated parent && holds Reactivate e x) Activated stays)
+      | Completed ↦ stays
+      | Rejected ↦ stays
+      | Aborted ↦ cond (o .retries) Considered stays
+    ]))
 
 -- Orders.
 

@@ -8,21 +8,24 @@ use Rattle.moves.proofs.ChildWords.{in-one, in-either, lost-is}
 use Rattle.moves.proofs.too_many_lost.Statement.{statement}
 use Rattle.moves.proofs.too_many_lost.Tie as tie
 
-sub-wait-for : tie.Need-sub-wait-for
-sub-wait-for c = and-le-l _ _
-
 returns : tie.Need-returns
-returns c t s known own =
-    let rejected = in-one known Rejected (c .before .before .in-state .ensures) in
-    let aborted = in-one known Aborted (c .before .in-state2 .ensures) in
-    ap not (c .wait-for .ensures) ∙ lost-is own (in-either rejected aborted)
+returns c s known =
+    let read = c .before in
+    let start = read .before .before .before .before .before .before .before in
+    let rejected = in-one known Rejected (read .before .before .in-state .ensures) in
+    let aborted = in-one known Aborted (read .before .in-state2 .ensures) in
+    ap not (c .wait-for .ensures)
+    ∙ lost-is (record { is = read .entry-at .ensures; collected = start .pre .collected }) (in-either rejected aborted)
 
 pub too-many-lost-spec : {M : Type 1} → statement M
 too-many-lost-spec =
     tie.close
     (tie.spec
+    (λ c. search needs)
+    (λ c. search needs)
     (λ c κs. search needs)
     (λ c κs. search needs)
-    sub-wait-for
+    (λ c κs. search needs)
+    (λ c. and-le-l _ _)
     (λ c κs. search needs)
     returns)

@@ -10,6 +10,7 @@ use Rattle.rules.specs.Table.{planCount}
 use Rattle.rules.specs.Step.{chosen, stepFirst}
 use Rattle.children.specs.Sets.{Beyond}
 use Rattle.moves.specs.StepFacts.{picksOf}
+use Rattle.moves.proofs.Moves.{move-facts}
 use Rattle.pass.proofs.Turns.{none-moved, one-more-moved, all-moved, none-written, one-more-written}
 use Rattle.pass.proofs.advance.Statement.{statement}
 use Rattle.pass.proofs.advance.Tie as tie
@@ -40,7 +41,8 @@ next-state-requires : tie.Need-next-state-requires Inv-loop μ-loop
 next-state-requires c κs =
     let turn = c .before in
     let pre = start-of turn .pre in
-    (pre .0, (pre .1 .0, (inside turn, omega (arith, placed turn), omega (arith, pre .1 .1 .2, turn .loop-test .taken))))
+    move-facts _ _ _ _ _ _ _ _ (pre .0) (pre .1 .0) _ (inside turn) (omega (arith, placed turn))
+    (omega (arith, pre .1 .1 .2, turn .loop-test .taken))
 
 loop-again : tie.Need-loop-again Inv-loop μ-loop
 loop-again c =

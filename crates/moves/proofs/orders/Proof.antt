@@ -1,10 +1,10 @@
--- `orders_for` meets its contract: the root, one that takes no orders, and one that its parent orders about. Assumes nothing.
+-- `orders` meets its contract: the root's, and a child's by its parent. Assumes nothing.
 use Prim.Native.Nat.{ℕ, _<_}
 use native.Mathlib.Omega.{arith}
-use mathlib.Core.Path.{sym, _∙_}
+use mathlib.Core.Path.{sym, ap, _∙_}
 use denote.Ref.{now}
+use lib.Dec.{eqb}
 use borrow.Author.Needs.{needs}
-use borrow.Author.Tests.{not-true, not-false, ne-eqb}
 use Rattle.rules.specs.Table.{planCount}
 use Rattle.rules.specs.Step.{chosen}
 use Rattle.rules.proofs.Codes.{state-is}
@@ -12,29 +12,23 @@ use Rattle.moves.specs.ChildWords.{HasWords}
 use Rattle.moves.specs.Tells.{RankedChild}
 use Rattle.moves.specs.StepFacts.{picksOf}
 use Rattle.moves.proofs.Moves.{child-of, child-orders}
-use Rattle.moves.proofs.orders_for.Statement.{statement}
-use Rattle.moves.proofs.orders_for.Tie as tie
+use Rattle.moves.proofs.orders.Statement.{statement}
+use Rattle.moves.proofs.orders.Tie as tie
 
 returns : tie.Need-returns
 returns c w = rw (c .before .if1 .taken) (c .root-orders .ensures)
 
-returns-2 : tie.Need-returns-2
-returns-2 c w =
-    let asked = c .before .before in
-    let free = sym (asked .takes-orders .ensures) ∙ not-true _ (c .before .if2 .taken) in
-    rw (ne-eqb _ _ (asked .before .if1 .left), free) (c .no-orders .ensures)
-
 -- where the parent's number is known: the start, and that it is the number of a lower plan
 abbrev start-of : tie.After-parent-at → tie.Start
-start-of c = c .before .before .before .before .before .before .before .before .before
+start-of c = c .before .before .before .before .before .before .before
 
 child : (c : tie.After-parent-at) → 0 < start-of c .args .p
-child c = omega (arith, c .before .before .before .if1 .left)
+child c = omega (arith, c .before .if1 .left)
 
 inside : (c : tie.After-parent-at) → c .parent-at .result < planCount (now (start-of c .args .table))
 inside c =
     let pre = start-of c .pre in
-    omega (arith, c .parent-at .ensures, pre .0 .down _ (child c) (pre .1 .0), pre .1 .0)
+    omega (arith, c .parent-at .ensures, pre .0 .down _ (child c) (pre .1), pre .1)
 
 has-words : (c : tie.After-parent-at) → HasWords (now (start-of c .args .sets)) (c .parent-at .result)
 has-words c =
@@ -49,8 +43,8 @@ shared-slice-read-wide-2 c =
     let up = c .before .before .before .before .before in
     omega (arith, inside up, start-of up .pre .0 .picks-room)
 
-is-picked-requires : tie.Need-is-picked-requires
-is-picked-requires c κs =
+chosen-rank-requires : tie.Need-chosen-rank-requires
+chosen-rank-requires c κs =
     let up = c .before .before .before .before .before .before in
     (has-words up, omega (arith, c .wide2 .ensures, start-of up .pre .0 .picks-small _ (inside up)))
 
@@ -59,13 +53,13 @@ entry-at-requires c κs =
     let up = c .before .before .before .before .before .before .before in
     omega (arith, inside up, start-of up .pre .0 .long)
 
-returns-3 : tie.Need-returns-3
-returns-3 c w =
+returns-2 : tie.Need-returns-2
+returns-2 c w =
     let read = c .before .before .before in
     let up = read .before .before .before .before .before .before in
     let start = start-of up in
     let facts = start .pre .0 in
-    let within = start .pre .1 .0 in
+    let within = start .pre .1 in
     let t = now (start .args .table) in
     let s = now (start .args .old) in
     let picks : ℕ → ℕ = picksOf (now (start .args .picks)) in
@@ -79,22 +73,20 @@ returns-3 c w =
       ranked = read .before .before .wide .ensures ∙ facts .ranked p within;
     }
     in
-    let picked = c .before .before .is-picked .ensures t s picks p known ranked (sym (read .wide2 .ensures)) (start .pre .1 .1) in
+    let rank = c .before .before .chosen-rank in
+    let picked =
+    ap (λ (k : ℕ). eqb k (rank .result)) (ranked .ranked)
+    ∙ rank .ensures t s picks p known (ranked .child) (sym (read .wide2 .ensures)) in
     let before = read .before .before .before .before .from-byte .ensures ∙ sym (state-is s q) in
-    let bound = sym (up .before .before .takes-orders .ensures) ∙ not-false _ (up .before .if2 .left) in
-    rw (ne-eqb _ _ (up .before .before .before .if1 .left), bound)
-    (c .orders-if .ensures t s w (chosen t s picks) p known ranked (c .before .entry-at .ensures) picked
-    ∙ child-orders t s w (chosen t s picks) _ (start .args .after) q p (child up) is-parent before)
+    c .orders-if .ensures t s w (chosen t s picks) p known ranked (c .before .entry-at .ensures) picked
+    ∙ child-orders t s w (chosen t s picks) _ (start .args .after) q p (child up) is-parent before
 
-pub orders-for-spec : {M : Type 1} → statement M
-orders-for-spec =
+pub orders-spec : {M : Type 1} → statement M
+orders-spec =
     tie.close
     (tie.spec
     (λ c κs. search needs)
     returns
-    (λ c κs. search needs)
-    (λ c κs. search needs)
-    returns-2
     (λ c κs. search needs)
     shared-slice-read-from-byte
     (λ c κs. search needs)
@@ -102,7 +94,7 @@ orders-for-spec =
     (λ c κs. search needs)
     shared-slice-read-wide-2
     (λ c κs. search needs)
-    is-picked-requires
+    chosen-rank-requires
     entry-at-requires
     (λ c κs. has-words (c .before .before .before .before .before .before .before .before))
-    returns-3)
+    returns-2)
