@@ -26,12 +26,14 @@ use rules::PlanEntry;
 use rules::PlanState;
 
 // The new state of plan p: document 01's list, 'By the parent's new state', from the top; of several lines for one state the first that
-// fits. docs/MOVE.md lays list, definition and code side by side. What a line needs to know is asked for in its test.
-// To read it beside the list: `parent` is the parent's new state, `state` the plan's old one. Left of `=>` stands what the plan was. What
-// stands alone, or behind `return`, is what it becomes, `state` where it stays. In a test `|` is or, `&` is and, `!` is not.
-// `table` has the plans' entries, `ranks` their ranks among their siblings, `names` the named children of each, `sets` its children by
-// old state, `picks` the rank that it picks, `words` the input words; `old` has the states before the step, `new` the new states of the
-// plans before p. Its parent is one of these: parents stand before their children, and plans move in table order.
+// fits. docs/MOVE.md lays list, definition and code side by side. What only one line needs to know is asked for in its test.
+// To read it beside the list: `parent` is the parent's new state, `state` the plan's old one. Left of `=>` stands what the plan was. A
+// state alone on its line, or behind `return` or `=>`, is what the plan becomes, and `state` there says that it stays. Between tests and
+// between states `|` is or, `&` is and, `!` is not.
+// `table` has the plans' entries, `ranks` their ranks among their siblings, `names` of each the children named in its wait-for, `sets` its
+// children by old state, `picks` the rank that it picks, `words` the input words; `old` has the states before the step, `new` the new
+// states of the plans before p, its parent's among them: parents stand before their children, and plans move in table order. The root acts
+// as if it had a parent.
 pub fn next_state(
     table: &[u8],
     ranks: &[u8],
