@@ -29,7 +29,7 @@ use rules::PlanState;
 // fits. docs/MOVE.md lays list, definition and code side by side. What only one line needs to know is asked for in its test.
 // To read it beside the list: `parent` is the parent's new state, `state` the plan's old one. Left of `=>` stands what the plan was. A
 // state alone on its line, or behind `return` or `=>`, is what the plan becomes, and `state` there says that it stays. Between tests and
-// between states `|` is or, `&` is and, `!` is not.
+// between states `|` is or, `&` is and, `!` is not; `||` is or too, and asks on only where it has to.
 // `table` has the plans' entries, `ranks` their ranks among their siblings, `names` of each the children named in its wait-for, `sets` its
 // children by old state, `picks` the rank that it picks, `words` the input words; `old` has the states before the step, `new` the new
 // states of the plans before p, its parent's among them: parents stand before their children, and plans move in table order. The root acts
@@ -52,7 +52,7 @@ pub fn next_state(
     let parent = parent_state(table, new, p);
     let state = PlanState::from_byte(old[p]);
     // by the parent's new state: Inactive or selection
-    if parent.is(PlanState::Inactive) | parent.in_selection() {
+    if parent.is(PlanState::Inactive) || parent.in_selection() {
         return PlanState::Inactive;
     }
     // ended

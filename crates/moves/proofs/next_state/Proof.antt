@@ -2,7 +2,8 @@
 -- its outcome is then the line that fits. Assumes nothing.
 use Prim.Native.Nat.{ℕ}
 use mathlib.Core.Path.{_≡_, refl, sym, ap, ap₂, _∙_}
-use mathlib.Core.Bool.{Bool, false, cond, not, _&&_, _||_}
+use mathlib.Core.Logic.{⊎-elim}
+use mathlib.Core.Bool.{Bool, true, false, cond, not, _&&_, _||_}
 use mathlib.Core.List.{List}
 use denote.Ref.{now}
 use borrow.Author.Needs.{needs}
@@ -88,42 +89,46 @@ module _ (c : tie.After-from-byte) where
   dormant = is Inactive parent || inSelection parent
 
 -- the parent's new state: not begun, ended, in execution
-tested : (c : tie.After-in-selection) → dormant (c .before .before) ≡ (c .before .is .result || c .in-selection .result)
-tested c = sym (ap₂ (λ (a b : Bool). a || b) (c .before .is .ensures) (c .in-selection .ensures))
-
-not-begun : (c : tie.Then1) → Inactive ≡ asked (c .before .before .before)
+not-begun : (c : tie.Joined1) → Inactive ≡ asked (c .before .before)
 unfolding move
-not-begun c = sym (leads (c .before .before .before) refl (rw (tested (c .before) ∙ c .if1 .taken) refl))
+not-begun c =
+    let here = c .before .before in
+    let known : dormant here ≡ true → Inactive ≡ asked here = λ d. sym (leads here refl (rw d refl)) in
+    ⊎-elim
+    (λ first. known (simp (← c .before .is .ensures, first .taken)))
+    (λ second. known (simp (← c .before .is .ensures, second .0 .left, ← second .1 .ensures, second .2 .taken)))
+    (c .if1 .came)
 
-begun : (c : tie.Else1) → dormant (c .before .before .before) ≡ false
-begun c = tested (c .before) ∙ c .if1 .left
+begun : (c : tie.Else2) → dormant (c .before .before .before .before) ≡ false
+begun c =
+    simp (← c .before .before .before .is .ensures, c .before .before .if1 .left, ← c .before .in-selection .ensures, c .if2 .left)
 
 under-ended :
-    (c : tie.Then2) →
-    let base = c .before .before .before .before .before in
+    (c : tie.Then3) →
+    let base = c .before .before .before .before .before .before in
     asked base
     ≡ cond (inSelection (base .from-byte .result)) Rejected
     (cond (inExecution (base .from-byte .result)) Aborted (base .from-byte .result))
 unfolding move
 under-ended c =
-    leads (c .before .before .before .before .before) refl
-    (simp (begun (c .before .before), ← c .before .is-ended .ensures, c .if2 .taken))
+    leads (c .before .before .before .before .before .before) refl
+    (simp (begun (c .before .before), ← c .before .is-ended .ensures, c .if3 .taken))
 
 not-selected :
-    (c : tie.Else3) →
-    let base = c .before .before .before .before .before .before .before in
+    (c : tie.Else4) →
+    let base = c .before .before .before .before .before .before .before .before in
     asked base ≡ cond (inExecution (base .from-byte .result)) Aborted (base .from-byte .result)
-not-selected c = simp (under-ended (c .before .before), ← c .before .in-selection2 .ensures, c .if3 .left)
+not-selected c = simp (under-ended (c .before .before), ← c .before .in-selection2 .ensures, c .if4 .left)
 
-module _ (c : tie.Else2) where
+module _ (c : tie.Else3) where
   abbrev base : tie.After-from-byte
-  base = c .before .before .before .before .before
+  base = c .before .before .before .before .before .before
 
   executing :
       {old new : PlanState} → base .from-byte .result ≡ old
       → (dormant base ≡ false → ended (parent base) ≡ false → moved base old ≡ new) → asked base ≡ new
   executing told there =
-      leads base told (there (begun (c .before .before)) (sym (c .before .is-ended .ensures) ∙ c .if2 .left))
+      leads base told (there (begun (c .before .before)) (sym (c .before .is-ended .ensures) ∙ c .if3 .left))
 
 -- under a parent in execution, state by state
 inactive : (c : tie.After-orders) → asked (base (c .before .before .before)) ≡ cond (c .orders .result .considers) Considered Inactive
@@ -142,7 +147,7 @@ considered c = executing (c .before .before .before) (c .before .enum-told2 .giv
 not-filtered :
     (c : tie.After-satisfiable) →
     asked (base (c .before .before .before .before .before)) ≡ cond (not (c .satisfiable .result)) Rejected Considered
-not-filtered c = simp (considered (c .before .before), c .before .if6 .left, ← c .satisfiable .ensures)
+not-filtered c = simp (considered (c .before .before), c .before .if7 .left, ← c .satisfiable .ensures)
 
 possible :
     (c : tie.After-holds2) →
@@ -154,7 +159,7 @@ possible c = executing (c .before .before .before) (c .before .enum-told3 .given
 not-set-up :
     (c : tie.After-satisfiable2) →
     asked (base (c .before .before .before .before .before)) ≡ cond (not (c .satisfiable2 .result)) Rejected Possible
-not-set-up c = simp (possible (c .before .before), c .before .if8 .left, ← c .satisfiable2 .ensures)
+not-set-up c = simp (possible (c .before .before), c .before .if9 .left, ← c .satisfiable2 .ensures)
 
 ready : (c : tie.After-orders2) → asked (base (c .before .before .before)) ≡ cond (c .orders2 .result .activates) Activated Ready
 unfolding move
@@ -181,7 +186,7 @@ not-aborted :
     asked here
     ≡ cond (c .before .is2 .result || c .holds4 .result) Suspended (cond (held here Complete && complete here) Completed Activated)
 not-aborted c =
-    simp (activated (c .before .before .before), c .before .before .if11 .left, ← c .before .is2 .ensures, ← c .holds4 .ensures)
+    simp (activated (c .before .before .before), c .before .before .if12 .left, ← c .before .is2 .ensures, ← c .holds4 .ensures)
 
 not-suspended :
     (c : tie.After-may-complete) →
@@ -191,7 +196,7 @@ not-suspended c =
     let here = base (c .before .before .before .before .before .before .before .before .before .before) in
     simp (
       not-aborted (c .before .before .before),
-      c .before .before .if12 .left,
+      c .before .before .if13 .left,
       ← c .before .holds5 .ensures,
       ← c .may-complete .ensures (s here) (known here),
     )
@@ -213,7 +218,7 @@ still-suspended :
     asked (base (c .before .before .before .before .before .before .before))
     ≡ cond (c .before .is3 .result && c .holds7 .result) Activated Suspended
 still-suspended c =
-    simp (suspended (c .before .before .before), c .before .before .if14 .left, ← c .before .is3 .ensures, ← c .holds7 .ensures)
+    simp (suspended (c .before .before .before), c .before .before .if15 .left, ← c .before .is3 .ensures, ← c .holds7 .ensures)
 
 over : (c : tie.At-match-keys7) → base (c .before) .from-byte .result ≡ asked (base (c .before))
 over c = sym (executing (c .before) refl (λ b g. over-stays _ _ _ _ _ _ b g _ (c .match .keys7)))
@@ -236,10 +241,10 @@ next-state-spec =
     not-begun
     (λ c κs. search needs)
     (λ c κs. search needs)
-    (λ c. simp (under-ended (c .before .before), ← c .before .in-selection2 .ensures, c .if3 .taken))
+    (λ c. simp (under-ended (c .before .before), ← c .before .in-selection2 .ensures, c .if4 .taken))
     (λ c κs. search needs)
-    (λ c. simp (not-selected (c .before .before), ← c .before .in-execution .ensures, c .if4 .taken))
-    (λ c. simp (not-selected (c .before .before), ← c .before .in-execution .ensures, c .if4 .left))
+    (λ c. simp (not-selected (c .before .before), ← c .before .in-execution .ensures, c .if5 .taken))
+    (λ c. simp (not-selected (c .before .before), ← c .before .in-execution .ensures, c .if5 .left))
     (λ c. search needs)
     (λ c κs. search needs)
     (λ c. search needs)
@@ -256,7 +261,7 @@ next-state-spec =
     (λ c κs. search needs)
     (λ c κs. search needs)
     (λ c κs. search needs)
-    (λ c κs. search needs)
+    (λ c κs. start (base (c .before .before .before .before .before .before .before .before .before)) .pre .children)
     (λ c. search needs)
     (λ c κs. search needs)
     (λ c κs. search needs)
@@ -264,23 +269,23 @@ next-state-spec =
     (λ c κs. search needs)
     (λ c. search needs)
     (λ c κs. search needs)
-    (λ c. simp (inactive (c .before), c .if5 .taken))
-    (λ c. simp (inactive (c .before), c .if5 .left, c .before .before .enum-told .given .1))
-    (λ c. simp (considered (c .before), c .if6 .taken))
-    (λ c. simp (not-filtered (c .before), c .if7 .taken))
-    (λ c. simp (not-filtered (c .before), c .if7 .left, c .before .before .before .before .enum-told2 .given .1))
-    (λ c. simp (possible (c .before), c .if8 .taken))
-    (λ c. simp (not-set-up (c .before), c .if9 .taken))
-    (λ c. simp (not-set-up (c .before), c .if9 .left, c .before .before .before .before .enum-told3 .given .1))
-    (λ c. simp (ready (c .before), c .if10 .taken))
-    (λ c. simp (ready (c .before), c .if10 .left, c .before .before .enum-told4 .given .1))
-    (λ c. simp (activated (c .before), c .if11 .taken))
-    (λ c. simp (not-aborted (c .before), c .if12 .taken))
-    (λ c. simp (not-suspended (c .before), c .if13 .taken))
-    (λ c. simp (not-suspended (c .before), c .if13 .left, c .before .before .before .before .before .before .before .before .before .enum-told5 .given .1))
-    (λ c. simp (suspended (c .before), c .if14 .taken))
-    (λ c. simp (still-suspended (c .before), c .if15 .taken))
-    (λ c. simp (still-suspended (c .before), c .if15 .left, c .before .before .before .before .before .before .enum-told6 .given .1))
+    (λ c. simp (inactive (c .before), c .if6 .taken))
+    (λ c. simp (inactive (c .before), c .if6 .left, c .before .before .enum-told .given .1))
+    (λ c. simp (considered (c .before), c .if7 .taken))
+    (λ c. simp (not-filtered (c .before), c .if8 .taken))
+    (λ c. simp (not-filtered (c .before), c .if8 .left, c .before .before .before .before .enum-told2 .given .1))
+    (λ c. simp (possible (c .before), c .if9 .taken))
+    (λ c. simp (not-set-up (c .before), c .if10 .taken))
+    (λ c. simp (not-set-up (c .before), c .if10 .left, c .before .before .before .before .enum-told3 .given .1))
+    (λ c. simp (ready (c .before), c .if11 .taken))
+    (λ c. simp (ready (c .before), c .if11 .left, c .before .before .enum-told4 .given .1))
+    (λ c. simp (activated (c .before), c .if12 .taken))
+    (λ c. simp (not-aborted (c .before), c .if13 .taken))
+    (λ c. simp (not-suspended (c .before), c .if14 .taken))
+    (λ c. simp (not-suspended (c .before), c .if14 .left, c .before .before .before .before .before .before .before .before .before .enum-told5 .given .1))
+    (λ c. simp (suspended (c .before), c .if15 .taken))
+    (λ c. simp (still-suspended (c .before), c .if16 .taken))
+    (λ c. simp (still-suspended (c .before), c .if16 .left, c .before .before .before .before .before .before .enum-told6 .given .1))
     over
-    (λ c. simp (aborted (c .before), c .if16 .taken))
-    (λ c. simp (aborted (c .before), c .if16 .left, c .before .before .enum-told7 .given .1)))
+    (λ c. simp (aborted (c .before), c .if17 .taken))
+    (λ c. simp (aborted (c .before), c .if17 .left, c .before .before .enum-told7 .given .1)))
