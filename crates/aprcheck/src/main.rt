@@ -1,7 +1,8 @@
 // The program `aprcheck` of document 01: a table and then a record on standard input, one line on standard output.
 // `report` is the whole of it on slices: its contract says that the line is that of a verdict which the definitions permit.
-// Assumes what `io` does of read and write, which no contract can speak of: that `main` is given the bytes of standard input, a read
-// that fails counting as their end, and that what it hands over is written.
+// Where standard input cannot be read to its end there is no input, and so no line: `main` says so on standard error.
+// Assumes of the system's read and write what no contract can speak of: that `main` is given the bytes of standard input, that a read
+// which fails is answered by a negative number, and that what it hands over is written.
 ghost use mathlib.Core.Path.{_≡_};
 ghost use mathlib.Core.List.{[], _∷_, _++_};
 ghost use Prim.Native.Nat.{ℕ, _+_, _<_, _≤_};
@@ -11,6 +12,8 @@ ghost use Rattle.rules.specs.Bytes.{byteAt};
 ghost use Rattle.rules.specs.Table.{planCount};
 ghost use Rattle.rules.specs.Program.{tableLength, Answered, decimal, line, Printed};
 ghost use Rattle.aprcheck.specs.Text.{Appended};
+ghost use Rattle.aprcheck.specs.Reading.{came, MayCome, InRoom};
+use libc::STDERR_FILENO;
 use libc::STDIN_FILENO;
 use libc::STDOUT_FILENO;
 use rules::Outcome;
@@ -19,10 +22,68 @@ use rules::Verdict;
 
 fn main() {
     let mut input = buffer();
-    let n = io::read_full(STDIN_FILENO, &mut input);
+    let Input::Whole(n) = read_input(&mut input) else {
+        io::write_all(
+            STDERR_FILENO,
+            b"aprcheck: standard input cannot be read; nothing is judged\n",
+        );
+        return;
+    };
     let mut out = [0u8; 64];
     let end = report(&input[..n], &mut out);
-    io::write_all(STDOUT_FILENO, &out[..end]);
+    if !io::write_all(STDOUT_FILENO, &out[..end]) {
+        io::write_all(
+            STDERR_FILENO,
+            b"aprcheck: standard output cannot be written\n",
+        );
+    }
+}
+
+// What reading the input came to: a read failed, or there are so many bytes.
+enum Input {
+    Broken,
+    Whole(usize),
+}
+
+// Reads standard input to its end, or as far as the buffer has room. A read that fails is not the end of the input.
+fn read_input(buffer: &mut [u8]) -> Input
+    ensures { λ r. ⌜ InRoom r (now (buffer .exit)) ⌝ }
+{
+    let mut n = 0;
+    while n < buffer.len() {
+        match read_some(&mut buffer[n..]) {
+            Got::Failed => return Input::Broken,
+            Got::Ended => return Input::Whole(n),
+            Got::Bytes(k) => n += k,
+        }
+    }
+    Input::Whole(n)
+}
+
+// What one read came to.
+enum Got {
+    Failed,
+    Ended,
+    Bytes(usize),
+}
+
+// One read into a part of the buffer.
+fn read_some(room: &mut [u8]) -> Got
+    ensures { λ r. ⌜ MayCome (length (now (room .entry))) r ⌝ }
+{
+    let answer = libc::read(STDIN_FILENO, room);
+    what_came(answer, room)
+}
+
+// What the system's answer to a read means.
+fn what_came(answer: isize, room: &[u8]) -> Got
+    ensures { λ r. ⌜ r ≡ came answer (length (now (room .entry))) ⌝ }
+{
+    if answer < 0 {
+        return Got::Failed;
+    }
+    let k = io::count(answer, room);
+    if k == 0 { Got::Ended } else { Got::Bytes(k) }
 }
 
 // Room for the longest input that may pass and one byte more: an input that fills it is too long, whatever else follows.
