@@ -261,6 +261,8 @@ ourMoves =
     -- wait-for-optional: one child is enough for the root, but it waits for the other; without the flag it completes
     ∷ rowStep (T1With 2 0 1 32) 464 idle 464
     ∷ rowStep (T1With 0 0 1 32) 464 idle 667
+    -- too many are lost: a Rejected child counts as an Aborted one does
+    ∷ rowStep T1 483 idle 788
     -- sequential: the first child not done gets every order, the second none; the first is done when Completed, Rejected, or Aborted
     -- without retry-aborted
     ∷ rowStep (sequential 0 1) 400 idle 410
@@ -293,6 +295,11 @@ ourRefusals =
     ∷ rowRefuses (T1With 0 64 2 32) 000 idle 7 0
     ∷ rowRefuses (T1Of 0 0 0 0 32) 000 idle 8 0
     ∷ rowRefuses (T1With 4 0 2 32) 000 idle 8 0
+    -- 8, of plan 1: an absent condition that is manual, one that is overridable; a leaf with retry-aborted, one with a wait number
+    ∷ rowRefuses (take 21 T1 ++ 16 ∷ drop 22 T1) 000 idle 8 1
+    ∷ rowRefuses (take 22 T1 ++ 16 ∷ drop 23 T1) 000 idle 8 1
+    ∷ rowRefuses (take 19 T1 ++ 5 ∷ drop 20 T1) 000 idle 8 1
+    ∷ rowRefuses (take 23 T1 ++ 1 ∷ drop 24 T1) 000 idle 8 1
     -- 10: more plans than states
     ∷ rowRefuses (star 3) 000 idle 10 0
     -- 11: no code; a child that does not suit a parent that is Inactive, Rejected, Completed or Suspended; a child that a sequential
