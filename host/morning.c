@@ -6,35 +6,19 @@
  *
  * Each line of WORDS is one step: for each plan its input word, in decimal, parted by blanks.
  */
-#include <stdio.h>
-#include <stdlib.h>
 #include <string.h>
 
-#include "asbru.h"
-
-enum { HEADER = 8, MOST_PLANS = 256, MOST_TABLE = HEADER + 8 * MOST_PLANS };
+#include "asbru_text.h"
+#include "files.h"
 
 static void fail(const char *what, const char *name) {
     fprintf(stderr, "morning: %s: %s\n", name, what);
     exit(1);
 }
 
-/* All bytes of a file; the caller frees them. */
-static uint8_t *read_file(const char *name, size_t *length) {
-    FILE *file = fopen(name, "rb");
-    if (!file) fail("cannot be opened", name);
-    uint8_t *bytes = NULL;
-    size_t room = 0;
-    *length = 0;
-    do {
-        room = room * 2 + 4096;
-        uint8_t *more = (uint8_t *)realloc(bytes, room);
-        if (!more) fail("is too long", name);
-        bytes = more;
-        *length += fread(bytes + *length, 1, room - *length, file);
-    } while (*length == room);
-    if (ferror(file)) fail("cannot be read", name);
-    fclose(file);
+static uint8_t *load(const char *name, size_t *length) {
+    uint8_t *bytes = read_file(name, length);
+    if (!bytes) fail(strerror(errno), name);
     return bytes;
 }
 
@@ -46,55 +30,59 @@ static int read_words(uint8_t *words, size_t plans) {
             if (p > 0) fail("a step lacks words", "standard input");
             return 0;
         }
-        for (size_t k = 0; k < 4; k++) words[4 * p + k] = (uint8_t)(word >> 8 * k);
+        asbru_put_word(words, p, (uint32_t)word);
     }
     return 1;
 }
 
-/* A record holds no picks: they are the host's own. */
-static void put_step(FILE *file, const uint8_t *words, const uint8_t *states, size_t plans) {
-    for (size_t i = 0; i < 4 * plans; i++) putc(i % 4 == 3 ? words[i] & 0xC0 : words[i], file);
-    fwrite(states, 1, plans, file);
+static void print_states(unsigned step, const uint8_t *states, size_t plans) {
+    printf("%2u", step);
+    for (size_t p = 0; p < plans; p++) printf(" %s", asbru_state_text(states[p]));
+    printf("\n");
 }
 
-static void print_answer(const char *what, uint64_t answer) {
-    printf("%s: number %u, step %u, plan %u\n", what, asbru_number(answer), asbru_step_of(answer), asbru_plan(answer));
+/* Ends the morning where a call is refused, with what the answer says. */
+static void need(uint64_t answer) {
+    if (asbru_number(answer) == ASBRU_DONE) return;
+    printf("refused %u, step %u, plan %u: %s\n", asbru_number(answer), asbru_step_of(answer), asbru_plan(answer),
+           asbru_number_text(asbru_number(answer)));
+    exit(1);
 }
 
 int main(int argc, char **argv) {
     if (argc != 3) fail("morning TABLE RECORD < WORDS", "usage");
     size_t table_length;
-    uint8_t *table = read_file(argv[1], &table_length);
-    if (table_length < HEADER || table_length > MOST_TABLE) fail("is no table", argv[1]);
-    size_t plans = (table_length - HEADER) / 8;
+    uint8_t *table = load(argv[1], &table_length);
+    if (table_length < ASBRU_HEADER || table_length > ASBRU_HEADER + ASBRU_ENTRY * ASBRU_MOST_PLANS) fail("is no table", argv[1]);
+    size_t plans = (table_length - ASBRU_HEADER) / ASBRU_ENTRY;
 
     FILE *file = fopen(argv[2], "wb");
     if (!file) fail("cannot be written", argv[2]);
-    fwrite("APR", 1, 3, file);
-    fwrite(table + 3, 1, HEADER - 3, file);
+    uint8_t part[(ASBRU_WORD + 1) * ASBRU_MOST_PLANS];
+    asbru_put_header(part, 'R', (unsigned)plans);
+    fwrite(part, 1, ASBRU_HEADER, file);
 
-    uint8_t states[MOST_PLANS] = {0};
-    uint8_t words[4 * MOST_PLANS];
+    uint8_t states[ASBRU_MOST_PLANS] = {0};
+    uint8_t words[ASBRU_WORD * ASBRU_MOST_PLANS];
     for (unsigned step = 1; read_words(words, plans); step++) {
-        uint64_t answer = asbru_step(table, table_length, states, plans, words, 4 * plans);
-        if (asbru_number(answer) != 0) {
-            print_answer("refused", answer);
-            return 1;
-        }
-        printf("%2u ", step);
-        for (size_t p = 0; p < plans; p++) printf(" %u", states[p]);
-        printf("\n");
-        put_step(file, words, states, plans);
+        need(asbru_step(table, table_length, states, plans, words, ASBRU_WORD * plans));
+        print_states(step, states, plans);
+        asbru_put_step(part, plans, words, states);
+        fwrite(part, 1, asbru_step_size(plans), file);
     }
     if (fclose(file) != 0) fail("cannot be written", argv[2]);
 
     /* where the words of an idle step lead from here */
     memset(words, 0, sizeof words);
-    print_answer("at rest", asbru_rest(table, table_length, states, plans, words, 4 * plans, 1000));
+    uint64_t rest = asbru_rest(table, table_length, states, plans, words, ASBRU_WORD * plans, 1000);
+    need(rest);
+    printf("%s after %u steps\n", asbru_plan(rest) == 0 ? "at rest" : "still moving", asbru_step_of(rest));
 
     size_t record_length;
-    uint8_t *record = read_file(argv[2], &record_length);
-    print_answer("checked", asbru_check(table, table_length, record, record_length));
+    uint8_t *record = load(argv[2], &record_length);
+    uint64_t verdict = asbru_check(table, table_length, record, record_length);
+    need(verdict);
+    printf("accepted: %u steps\n", asbru_step_of(verdict));
     free(record);
     free(table);
     return 0;

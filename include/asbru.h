@@ -2,7 +2,8 @@
  * asbru.h: the rules of Asbru plans, for a host program in C or C++.
  *
  * Three functions over byte buffers that the caller owns: one step, a run to rest, and the checker of treatment records. They are
- * written in Rattle and proved (crate `tablet`). Link with libtablet.a, which `rt staticlib tablet` writes for x86-64.
+ * written in Rattle and proved (crate `tablet`). Link with libasbru.a, which `make` writes for x86-64. docs/RULES.md has the rules in
+ * words, in numbered paragraphs; asbru_text.h, which is not proved, has a text for each state and each number.
  *
  *
  * BUFFERS
@@ -14,75 +15,73 @@
  *
  * Table: 8 + 8n bytes.
  *   0-2  the mark 'A' 'P' 'T'
- *   3-4  the version, 1
+ *   3-4  the version of the format, ASBRU_FORMAT
  *   5-6  n
  *   7    0
  *   then 8 bytes for each plan, in preorder (a plan, then all plans under its first child, then those under its second, ..):
- *   0-1  the parent's number: of plan 0 65535, of any other plan the plan just before it or an ancestor of that one. A plan has at
- *        most 64 children; a child's rank is its place among them, from 0
- *   2    the body: 0 leaf, 1 sequential, 2 parallel, 3 any-order, 4 unordered. Leaf exactly when the plan has no children
- *   3    flags: bit 0 retry-aborted, bit 1 wait-for-optional (both 0 of a leaf), bit 2 named in the parent's wait-for (0 of plan 0)
- *   4    conditions present: bits 0 to 5 are filter, setup, suspend, reactivate, abort, complete
+ *   0-1  the parent's number: of plan 0 ASBRU_NO_PARENT, of any other plan the plan just before it or an ancestor of that one. A plan
+ *        has at most 64 children; a child's rank is its place among them, from 0
+ *   2    the body, one of `enum asbru_body`. Leaf exactly when the plan has no children
+ *   3    flags, of `enum asbru_flag`
+ *   4    conditions present: the bits ASBRU_BIT of `enum asbru_condition`
  *   5    conditions that are manual, with the same bits; only of present ones
  *   6    conditions that are overridable, with the same bits; only of present ones
  *   7    wait number m: how many named children wait-for asks for; at most the number of named children, 0 of a leaf
  *
- * States: n bytes, one for each plan.
- *   0 Inactive, 1 Considered, 2 Possible, 3 Ready, 4 Activated, 5 Suspended, 6 Completed, 7 Aborted, 8 Rejected.
- *   Selection is 1 to 3, execution 4 and 5, ended 6 to 8. A treatment starts with all of them 0. States that are handed in keep to:
- *   - A child of a plan in 0, 1, 2, 3 or 8 is Inactive; of one in 6 or 7, Inactive or ended; of a Suspended one, not Activated.
+ * States: n bytes, one of `enum asbru_state` for each plan. A treatment starts with all of them ASBRU_INACTIVE.
+ *   Selection is Considered, Possible, Ready; execution Activated and Suspended; ended Completed, Aborted, Rejected. States that are
+ *   handed in keep to this, and those that asbru_step and asbru_rest leave do so too:
+ *   - A child of a plan that is Inactive, in selection or Rejected is Inactive; of one that is Completed or Aborted, Inactive or
+ *     ended; of a Suspended one, not Activated.
  *   - At most one child of an any-order plan is in execution.
  *   - Of a sequential plan, every child after the first not done is Inactive. Done: Completed, Rejected, or Aborted without
  *     retry-aborted.
- *   The states that asbru_step and asbru_rest leave there do so too.
  *
- * Words: 4n bytes, a 32-bit word for each plan, which says what is so of that plan in one step.
- *   bits 0-5    the pattern of filter, setup, suspend, reactivate, abort, complete is satisfied
- *   bits 6, 7   filter, setup can still be satisfied; set wherever bit 0, or bit 1, is set, whether or not the plan has the condition
- *   bits 8-13   manual trigger of the six, in the same order
- *   bits 14-19  override of the six, in the same order
- *   bits 24-29  pick: the rank of the child to be activated, of an any-order plan; below its number of children; 0 of any other plan
- *   all other bits are 0
+ * Words: 4n bytes, a 32-bit word for each plan, which says what is so of that plan in one step. It is put together by `|` from the
+ *   ASBRU_ macros below; asbru_put_word puts it at its place. All other bits are 0.
  *
  * Record: 8 bytes, and 5n more for each of its 0 to 65535 steps.
  *   0-7  a header as the table's, with the mark 'A' 'P' 'R' and the same n
- *   then for each step 4n bytes of words, with pick bits 0, and the n states after that step. Before step 1 all plans are Inactive.
+ *   then for each step 4n bytes of words, with pick bits 0 (ASBRU_PICK_BITS), and the n states after that step. Before step 1 all
+ *   plans are Inactive.
+ *
+ *
+ * WHAT WORDS DO, FOR THE AUTHOR OF A HOST
+ *
+ * - Words are of one step: nothing is kept of them. A bit that should count in the next step is set again there.
+ * - An absent filter, setup, reactivate or complete always holds, and an absent suspend or abort never does. Bits of an absent condition
+ *   move nothing (but see number 12). So a plan whose complete is absent completes as soon as its children let it: a leaf in the step
+ *   after its activation, and so does a plan with wait number 0 and without wait-for-optional, before it has considered any child. A
+ *   table with a wait number forgotten gives an empty treatment that is in order.
+ * - A plan that is Considered is Rejected in the step in which its filter is present, does not hold, is not overridable and is not said to
+ *   be satisfiable; a Possible one by its setup. It stays Rejected unless a plan above it is retried. So where nothing is known yet, the
+ *   word of a plan that has them is not 0 but ASBRU_SATISFIABLE of both.
+ * - A manual condition holds while its pattern is satisfied and it is triggered, both in the same word; a trigger alone does nothing.
+ *   Override makes an overridable condition hold whatever else the word says. On a condition that is not manual a trigger is not
+ *   looked at, nor is an override on one that is not overridable.
+ * - Of abort, suspend and complete the first that holds counts, in this order. A Suspended plan does not complete: it is reactivated first.
+ * - The pick is looked at where an any-order plan may activate a child: it was Activated and stays so, none of its children is in execution
+ *   and, with retry-aborted, none is Aborted. If the child of that rank is Ready, it is activated; if it is not, the pick counts for
+ *   nothing and the Ready child of lowest rank is activated. So a pick of 0, which is that of an empty word, is a pick too, and a child
+ *   cannot be held back by picking one that is not Ready.
+ * - A plan moves by one state in a step, and a child feels its parent's new state in the same step: where a plan ends, its children in
+ *   selection are Rejected and those in execution Aborted with it. From all plans Inactive the root is Activated after four steps and
+ *   its first children after eight, at the earliest.
  *
  *
  * ANSWERS
  *
- * An answer is number + plan * 2^16 + step * 2^32; asbru_number, asbru_plan and asbru_step_of take it apart. Number 0 is success, and
- * each function below says what plan and step then are. Any other number is a refusal. Checks are made in the order of the numbers,
- * each over all plans before the next (asbru_check: 1 to 9, 13, 14, then step by step 12 before 15), so a refusal is the first thing
- * wrong. `plan` is the lowest plan concerned; `step` counts from 1; both are 0 where the list names none.
- *
- *   No.  Names        Given exactly when
- *    1                the table is shorter than 8 bytes
- *    2                the table's mark is wrong
- *    3                the table's version is not 1
- *    4                n is outside 1 to 256, or byte 7 of the table is not 0
- *    5                the table's length is not 8 + 8n
- *    6   plan         the parent rule is broken, or a plan has a 65th child (which is then the plan named)
- *    7   plan         the body is above 4, or an unused bit is set in bytes 3 to 6
- *    8   plan         the body does not fit the children; an absent condition is manual or overridable; plan 0 is named; a leaf has
- *                     a wait number or flag bits 0, 1
- *    9   plan         the wait number is above the number of named children
- *   10                the states are not n bytes or the words not 4n                                      (not of asbru_check)
- *   11   plan         a state is above 8 or breaks a rule, together with the states of plans before it    (not of asbru_check)
- *   12   plan, step   a word has an unused bit, a wrong pick (in a record: any pick bit), or filter or setup satisfied that cannot
- *                     be; the step is named by asbru_check only
- *   13                the record's header is short or wrong                                               (only of asbru_check)
- *   14                the record's length behind its header is not a multiple of 5n, or over 65535 steps  (only of asbru_check)
- *   15   plan, step   no picks lead to the states shown: this plan is the lowest p of which no picks explain plans 0 to p, in the
- *                     first step where that is so                                                         (only of asbru_check)
- *   16                the input is over 65536 bytes: of the program `aprcheck`, never of these functions
+ * An answer is number + plan * 2^16 + step * 2^32; asbru_number, asbru_plan and asbru_step_of take it apart. ASBRU_DONE is success, and
+ * each function below says what plan and step then are. Any other number of `enum asbru_answer` is a refusal. Checks are made in the
+ * order of the numbers, each over all plans before the next (asbru_check: 1 to 9, 13, 14, then step by step 12 before 15), so a refusal
+ * is the first thing wrong. `plan` is the lowest plan concerned; `step` counts from 1; both are 0 where the list names none.
  *
  *
  * WHAT A CALL TOUCHES
  *
- * `states` is all that is written, by asbru_step and asbru_rest, and only where the answer's number is 0: after a refusal it is as it
- * was. Nothing is allocated, nothing is kept from one call to the next, and nothing global is read or written, so calls from several
- * threads are independent as long as no thread writes a buffer that another call uses: tables may be shared, states may not.
+ * `states` is all that is written, by asbru_step and asbru_rest, and only where the answer's number is ASBRU_DONE: after a refusal it is
+ * as it was. Nothing is allocated, nothing is kept from one call to the next, and nothing global is read or written, so calls from
+ * several threads are independent as long as no thread writes a buffer that another call uses: tables may be shared, states may not.
  * Every call returns. A call takes about 22 KiB of stack, whatever it is handed. Its time grows with n, of asbru_rest with n for each
  * step taken (at most 65535), of asbru_check with the record's length.
  */
@@ -96,27 +95,141 @@
 extern "C" {
 #endif
 
+/* Raised by one whenever a function, a format, a number or a rule changes: CHANGELOG.md says how. */
+#define ASBRU_VERSION 1
+
+/* Limits, and the sizes of what buffers hold. */
+enum asbru_size {
+    ASBRU_FORMAT = 1, /* the version of tables and records */
+    ASBRU_HEADER = 8, /* bytes: of a table and of a record */
+    ASBRU_ENTRY = 8,  /* bytes: a plan's in a table */
+    ASBRU_WORD = 4,   /* bytes: a plan's among the words */
+    ASBRU_MOST_PLANS = 256,
+    ASBRU_MOST_CHILDREN = 64, /* of one plan */
+    ASBRU_MOST_STEPS = 65535, /* of a record, and the largest budget */
+    ASBRU_NO_PARENT = 65535
+};
+
+/* Byte 2 of a plan's entry. */
+enum asbru_body {
+    ASBRU_LEAF,
+    ASBRU_SEQUENTIAL,
+    ASBRU_PARALLEL,
+    ASBRU_ANY_ORDER,
+    ASBRU_UNORDERED
+};
+
+/* Bits of byte 3. A leaf has neither of the first two, plan 0 not the third. */
+enum asbru_flag {
+    ASBRU_RETRY_ABORTED = 1,
+    ASBRU_WAIT_FOR_OPTIONAL = 2,
+    ASBRU_NAMED = 4 /* in the parent's wait-for */
+};
+
+/* The six conditions, by their bits in bytes 4 to 6 and in a word. */
+enum asbru_condition {
+    ASBRU_FILTER,
+    ASBRU_SETUP,
+    ASBRU_SUSPEND,
+    ASBRU_REACTIVATE,
+    ASBRU_ABORT,
+    ASBRU_COMPLETE
+};
+
+/* The bit of a condition in bytes 4 to 6. */
+#define ASBRU_BIT(c) (1u << (c))
+
+/* The state of a plan. */
+enum asbru_state {
+    ASBRU_INACTIVE,
+    ASBRU_CONSIDERED,
+    ASBRU_POSSIBLE,
+    ASBRU_READY,
+    ASBRU_ACTIVATED,
+    ASBRU_SUSPENDED,
+    ASBRU_COMPLETED,
+    ASBRU_ABORTED,
+    ASBRU_REJECTED
+};
+
+/* What a word says, c being a condition. Bits 0-5: its pattern is satisfied. */
+#define ASBRU_SATISFIED(c) ((uint32_t)1 << (c))
+/* Bits 6, 7: filter or setup can still be satisfied; set wherever it is satisfied, whether or not the plan has the condition. */
+#define ASBRU_SATISFIABLE(c) ((uint32_t)1 << (6 + (c)))
+/* Bits 8-13: the trigger of a manual condition. */
+#define ASBRU_TRIGGER(c) ((uint32_t)1 << (8 + (c)))
+/* Bits 14-19: the override of an overridable condition. */
+#define ASBRU_OVERRIDE(c) ((uint32_t)1 << (14 + (c)))
+/* Bits 24-29: the rank of the child to be activated, of an any-order plan; below its number of children; 0 of any other plan. */
+#define ASBRU_PICK(rank) ((uint32_t)(rank) << 24)
+/* All bits of a pick: a record has none of them. */
+#define ASBRU_PICK_BITS ASBRU_PICK(63)
+
 /*
- * One step: every plan moves at once, under these words. Number 0, with plan 0 and step 0: done, and the new states stand in `states`.
+ * The number of an answer: given exactly when what stands above it is so. In brackets what else the answer names.
+ */
+enum asbru_answer {
+    ASBRU_DONE = 0,
+    /* the table is shorter than 8 bytes */
+    ASBRU_REFUSED_TABLE_SHORT = 1,
+    /* the table's mark is wrong */
+    ASBRU_REFUSED_TABLE_MARK = 2,
+    /* the table's version is not 1 */
+    ASBRU_REFUSED_TABLE_VERSION = 3,
+    /* n is outside 1 to 256, or byte 7 of the table is not 0 */
+    ASBRU_REFUSED_TABLE_COUNT = 4,
+    /* the table's length is not 8 + 8n */
+    ASBRU_REFUSED_TABLE_LENGTH = 5,
+    /* [plan] the parent rule is broken, or a plan has a 65th child (which is then the plan named) */
+    ASBRU_REFUSED_PARENT = 6,
+    /* [plan] the body is above 4, or an unused bit is set in bytes 3 to 6 */
+    ASBRU_REFUSED_UNDEFINED = 7,
+    /* [plan] the body does not fit the children; an absent condition is manual or overridable; plan 0 is named; a leaf has a wait
+       number, retry-aborted or wait-for-optional */
+    ASBRU_REFUSED_UNFIT = 8,
+    /* [plan] the wait number is above the number of named children */
+    ASBRU_REFUSED_WAIT = 9,
+    /* the states are not n bytes or the words not 4n; never of asbru_check */
+    ASBRU_REFUSED_LENGTHS = 10,
+    /* [plan] a state is above 8 or breaks a rule, together with the states of plans before it; never of asbru_check */
+    ASBRU_REFUSED_STATE = 11,
+    /* [plan; of asbru_check the step too] a word has an unused bit, a wrong pick (in a record: any pick bit), or filter or setup satisfied
+       but not satisfiable, whether or not the plan has the condition and whether or not it is overridable */
+    ASBRU_REFUSED_WORD = 12,
+    /* the record's header is short or wrong; only of asbru_check */
+    ASBRU_REFUSED_RECORD_HEADER = 13,
+    /* the record's length behind its header is not a multiple of 5n, or over 65535 steps; only of asbru_check */
+    ASBRU_REFUSED_RECORD_LENGTH = 14,
+    /* [plan, step] no picks lead to the states shown: this plan is the lowest p of which no picks explain plans 0 to p, in the first step
+       where that is so; only of asbru_check */
+    ASBRU_REFUSED_UNEXPLAINED = 15,
+    /* the input is over 65536 bytes: of the program `aprcheck`, never of these functions */
+    ASBRU_REFUSED_INPUT_LONG = 16
+};
+
+/*
+ * One step of all plans, under these words. ASBRU_DONE, with plan 0 and step 0: the new states stand in `states`.
  */
 uint64_t asbru_step(const uint8_t *table, size_t table_length, uint8_t *states, size_t states_length, const uint8_t *words,
                     size_t words_length);
 
 /*
- * Steps under the same words until one more would change nothing, but no more steps than the budget. Number 0: plan 0 says that it
+ * Steps under the same words until one more would change nothing, but no more steps than the budget. ASBRU_DONE: plan 0 says that it
  * rested, and step after how many steps, which is the least such number and at most the budget; plan 1 says that it is still moving,
- * and step is the budget. `states` then holds the states after that many steps.
+ * and step is the budget. `states` then holds the states after that many steps. The states between are not shown, and a record needs
+ * them: a host that keeps one makes single steps.
  */
 uint64_t asbru_rest(const uint8_t *table, size_t table_length, uint8_t *states, size_t states_length, const uint8_t *words,
                     size_t words_length, uint16_t budget);
 
 /*
- * Whether a treatment record can come from the rules under a table, for some picks. Number 0, with plan 0: accepted, and step is the
- * number of steps. It writes nothing.
+ * Whether a treatment record can come from the rules under a table, for some picks. ASBRU_DONE, with plan 0: accepted, and step is the
+ * number of steps. It writes nothing. With an empty record it tells whether a table is good: ASBRU_REFUSED_RECORD_HEADER, exactly where no
+ * number from 1 to 9 is given.
  */
 uint64_t asbru_check(const uint8_t *table, size_t table_length, const uint8_t *record, size_t record_length);
 
-/* The number of an answer: 0, or that of the refusal. */
+/* The number of an answer, one of `enum asbru_answer`. */
 static inline unsigned asbru_number(uint64_t answer) {
     return (unsigned)(answer & 0xFFFF);
 }
@@ -129,6 +242,37 @@ static inline unsigned asbru_plan(uint64_t answer) {
 /* The step, or number of steps, of an answer. */
 static inline unsigned asbru_step_of(uint64_t answer) {
     return (unsigned)(answer >> 32);
+}
+
+/* Puts the word of a plan at its place among the words of a step. */
+static inline void asbru_put_word(uint8_t *words, size_t plan, uint32_t word) {
+    for (size_t k = 0; k < ASBRU_WORD; k++) words[ASBRU_WORD * plan + k] = (uint8_t)(word >> 8 * k);
+}
+
+/* The word of a plan among the words of a step. */
+static inline uint32_t asbru_get_word(const uint8_t *words, size_t plan) {
+    uint32_t word = 0;
+    for (size_t k = 0; k < ASBRU_WORD; k++) word |= (uint32_t)words[ASBRU_WORD * plan + k] << 8 * k;
+    return word;
+}
+
+/* Puts the header of a table ('T') or of a record ('R') of so many plans at the start of its bytes. */
+static inline void asbru_put_header(uint8_t *bytes, char kind, unsigned plans) {
+    const uint8_t header[ASBRU_HEADER] = {'A', 'P', (uint8_t)kind, ASBRU_FORMAT, 0, (uint8_t)plans, (uint8_t)(plans >> 8), 0};
+    for (size_t k = 0; k < ASBRU_HEADER; k++) bytes[k] = header[k];
+}
+
+/* The bytes of one step of a record. */
+static inline size_t asbru_step_size(size_t plans) {
+    return (ASBRU_WORD + 1) * plans;
+}
+
+/* Puts one step of a record at its place: the words less their picks, which are the host's own, and the states after the step. */
+static inline void asbru_put_step(uint8_t *step, size_t plans, const uint8_t *words, const uint8_t *states) {
+    for (size_t p = 0; p < plans; p++) {
+        asbru_put_word(step, p, asbru_get_word(words, p) & ~ASBRU_PICK_BITS);
+        step[ASBRU_WORD * plans + p] = states[p];
+    }
 }
 
 #ifdef __cplusplus
