@@ -12,15 +12,15 @@ compile := . host/machine; $$c -std=c11 $$flags
 .PHONY: all check install test
 all: target/libasbru.a target/made/aprcheck target/host/check
 
-# `rt` proves what has changed, and says so, a line a crate
-target/libasbru.a: $(proved)
-	@rt staticlib tablet | { grep '^rt: ' || true; }
-	@cp target/staticlib/libtablet.a $@
-
-target/made/aprcheck: $(proved)
-	@rt check aprcheck | { grep '^rt: ' || true; }
-	@mkdir -p $(@D)
-	@touch $@
+# `rt` proves what has changed: its line for each crate is shown, and all that it says where it fails
+target/libasbru.a target/made/aprcheck: $(proved)
+	@mkdir -p target/made
+	@$(rt) 2>&1 | tee target/made/log | { grep '^rt: ' || true; } || { cat target/made/log >&2; exit 1; }
+	@$(made)
+target/libasbru.a: rt = rt staticlib tablet
+target/libasbru.a: made = cp target/staticlib/libtablet.a $@
+target/made/aprcheck: rt = rt check aprcheck
+target/made/aprcheck: made = touch $@
 
 target/host/check: host/check.c host/files.h host/machine include/asbru.h include/asbru_text.h target/libasbru.a
 	@mkdir -p $(@D)
