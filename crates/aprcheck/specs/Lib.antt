@@ -1,3 +1,3 @@
 -- What the contracts of this crate speak of beside document 01's definitions.
-pub mod Reading
+pub mod Came
 pub mod Text

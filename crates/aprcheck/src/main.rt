@@ -12,7 +12,7 @@ ghost use Rattle.rules.specs.Bytes.{byteAt};
 ghost use Rattle.rules.specs.Table.{planCount};
 ghost use Rattle.rules.specs.Program.{tableLength, Answered, decimal, line, Printed};
 ghost use Rattle.aprcheck.specs.Text.{Appended};
-ghost use Rattle.aprcheck.specs.Reading.{came, MayCome, InRoom};
+ghost use Rattle.aprcheck.specs.Came.{came, MayCome, InRoom};
 use libc::STDERR_FILENO;
 use libc::STDIN_FILENO;
 use libc::STDOUT_FILENO;

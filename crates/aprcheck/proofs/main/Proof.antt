@@ -2,7 +2,7 @@
 use mathlib.Core.Path.{subst}
 use borrow.Author.Needs.{needs}
 use Rattle.io.specs.Counts.{Counts}
-use Rattle.aprcheck.specs.Reading.{InRoom}
+use Rattle.aprcheck.specs.Came.{InRoom}
 use Rattle.aprcheck.specs.declared.Input.{Input}
 use Rattle.aprcheck.proofs.main.Statement.{statement}
 use Rattle.aprcheck.proofs.main.Tie as tie

@@ -7,7 +7,7 @@ use lib.ListN.{length, take, drop, length-drop}
 use lib.Seq.{length-take-le}
 use borrow.Rule.Slice.PartMut.{putMid}
 use borrow.Author.Needs.{needs}
-use Rattle.aprcheck.specs.Reading.{MayCome}
+use Rattle.aprcheck.specs.Came.{MayCome}
 use Rattle.aprcheck.specs.declared.Got.{Got}
 use Rattle.aprcheck.proofs.read_input.Statement.{statement}
 use Rattle.aprcheck.proofs.read_input.Tie as tie

@@ -10,7 +10,7 @@ use mir.Syntax.{w64}
 use mir.Val.{toZ, ofZ}
 use denote.Ref.{now}
 use borrow.Author.Needs.{needs}
-use Rattle.aprcheck.specs.Reading.{came, MayCome}
+use Rattle.aprcheck.specs.Came.{came, MayCome}
 use Rattle.aprcheck.specs.declared.Got.{Got}
 use Rattle.aprcheck.specs.declared.Got.the-variants.{Ended, Bytes}
 use Rattle.aprcheck.proofs.read_some.Statement.{statement}

@@ -13,7 +13,7 @@ use mir.Facts.{toZ-ofZ}
 use denote.Ref.{now}
 use borrow.Author.Needs.{needs}
 use Rattle.io.specs.Counts.{clamped}
-use Rattle.aprcheck.specs.Reading.{came}
+use Rattle.aprcheck.specs.Came.{came}
 use Rattle.aprcheck.specs.declared.Got.the-variants.{Failed, Ended, Bytes}
 use Rattle.aprcheck.proofs.what_came.Statement.{statement}
 use Rattle.aprcheck.proofs.what_came.Tie as tie
