@@ -50,9 +50,9 @@
  *
  * - Words are of one step: nothing is kept of them. A bit that should count in the next step is set again there.
  * - An absent filter, setup, reactivate or complete always holds, and an absent suspend or abort never does. Bits of an absent condition
- *   move nothing (but see number 12). So a plan whose complete is absent completes as soon as its children let it: a leaf in the step
- *   after its activation, and so does a plan with wait number 0 and without wait-for-optional, before it has considered any child. A
- *   table with a wait number forgotten gives an empty treatment that is in order.
+ *   move nothing (but see number 12). So a plan whose complete is absent completes as soon as its children let it, if nothing aborts or
+ *   suspends it: a leaf in the step after its activation, and so does a plan with wait number 0 and without wait-for-optional, before
+ *   it has considered any child. A table with a wait number forgotten gives an empty treatment that is in order.
  * - A plan that is Considered is Rejected in the step in which its filter is present, does not hold, is not overridable and is not said to
  *   be satisfiable; a Possible one by its setup. It stays Rejected unless a plan above it is retried. So where nothing is known yet, the
  *   word of a plan that has them is not 0 but ASBRU_SATISFIABLE of both.
