@@ -7,6 +7,9 @@ SHELL := bash
 PREFIX ?= /usr/local
 version := $(shell sed -n 's/^\#define ASBRU_VERSION //p' include/asbru.h)
 proved := crates.txt $(shell find crates -type f ! -path '*/must-fail/*')
+ifneq ($(.SHELLSTATUS),0)
+$(error the files of crates/ could not be listed)
+endif
 compile := . host/machine; $$c -std=c11 $$flags
 
 .PHONY: all check install test

@@ -7,6 +7,7 @@
  */
 #define _POSIX_C_SOURCE 200809L
 #include <dirent.h>
+#include <fcntl.h>
 #include <signal.h>
 #include <stdarg.h>
 #include <string.h>
@@ -32,21 +33,21 @@ static const char HELP[] =
     "                              the paragraph names none\n"
     "\n"
     "--all judges every file of a folder, a line for each, and ends with a line that counts them. Names that begin with a\n"
-    "dot are passed over, and so is the table itself. --csv writes the same for a spreadsheet, with the count on standard\n"
-    "error.\n"
+    "dot are passed over, which standard error tells, and so is the table itself. --csv writes the same for a spreadsheet,\n"
+    "with the count on standard error. Bytes of a name that do not print are shown as \\xNN.\n"
     "\n"
     "Where table and record together have more than 65,536 bytes, which is more than the program takes, the library's\n"
     "function asbru_check judges them; the words say which of the two it was.\n"
     "\n"
     "Exit status: 0 accepted, 1 refused, 2 not judged. A file that cannot be read, or is no table or record at all, is not\n"
-    "judged: standard error then names it and says what is wrong with it. Of a folder: 2 if a file was not judged or there\n"
-    "was none, else 1 if one was refused, else 0.\n";
+    "judged: standard error then names it and says what is wrong with it. Only regular files are read. Of a folder: 2 if a\n"
+    "file was not judged, there was none or the table is refused; else 1 if one was refused, else 0.\n";
 
 enum { ACCEPTED, REFUSED, NOT_JUDGED, VERDICTS };
 static const char *const VERDICT[] = {"accepted", "refused", "not judged"};
 
 /* What `aprcheck` takes: document 01's limit, with its number 16. */
-enum { PROGRAM_TAKES = 65536 };
+enum { PROGRAM_TAKES = 65536, PATH_ROOM = 8192 };
 
 typedef struct {
     const char *name;
@@ -59,8 +60,10 @@ typedef struct {
     int verdict;
     unsigned number, step, plan;
     int by_library;
-    char words[400];
+    char words[600];
 } Result;
+
+static const Result NOTHING = {NOT_JUDGED, 0, 0, 0, 0, ""};
 
 /* Adds to the words of a result. */
 static void say(Result *result, const char *format, ...) {
@@ -69,6 +72,18 @@ static void say(Result *result, const char *format, ...) {
     va_start(values, format);
     vsnprintf(result->words + used, sizeof result->words - used, format, values);
     va_end(values);
+}
+
+/* Prints a name so that no byte of it can be taken for a line of ours. */
+static void print_name(FILE *to, const char *name) {
+    for (; *name; name++) {
+        unsigned char byte = (unsigned char)*name;
+        fprintf(to, byte < ' ' || byte == 127 ? "\\x%02x" : "%c", byte);
+    }
+}
+
+static const char *plural(size_t count) {
+    return count == 1 ? "" : "s";
 }
 
 static unsigned u16_at(const uint8_t *bytes, size_t at) {
@@ -94,7 +109,7 @@ static int begins(const File *file, const char *mark, const char *what, const ch
     } else if (!has_mark(file, mark)) {
         say(result, "this is no %s: it does not begin with the mark %s", strchr(what, ' ') + 1, mark);
     } else if (file->length < ASBRU_HEADER) {
-        say(result, "the file has %zu bytes, and the header of %s alone has 8", file->length, what);
+        say(result, "the file has %zu byte%s, and the header of %s alone has 8", file->length, plural(file->length), what);
     } else {
         return 1;
     }
@@ -120,8 +135,9 @@ static int has_its_length(const File *table, Result *result) {
     size_t due = ASBRU_HEADER + ASBRU_ENTRY * (size_t)n;
     if (table->length == due) return 1;
     int more = table->length > due;
-    say(result, "the table has %zu bytes, and the %u plans that it counts take %zu: %zu %s", table->length, n, due,
-        more ? table->length - due : due - table->length, more ? "too many" : "are missing");
+    size_t off = more ? table->length - due : due - table->length;
+    say(result, "the table has %zu bytes, and its count of plans, %u, asks for %zu: %zu byte%s too %s", table->length, n, due, off,
+        plural(off), more ? "many" : "few");
     return 0;
 }
 
@@ -224,7 +240,8 @@ static void explain_header(Result *result, const File *table, const File *record
 static void explain_length(Result *result, const File *table, const File *record) {
     size_t size = asbru_step_size(plans_of(table)), body = record->length - ASBRU_HEADER;
     if (body % size != 0) {
-        say(result, "behind %zu whole steps of %zu bytes the record has %zu bytes more", body / size, size, body % size);
+        say(result, "behind %zu whole step%s of %zu bytes the record has %zu byte%s more", body / size, plural(body / size), size,
+            body % size, plural(body % size));
     } else {
         say(result, "the record has %zu steps, and %d are the most", body / size, ASBRU_MOST_STEPS);
     }
@@ -236,29 +253,40 @@ static void say_state(Result *result, unsigned state) {
     if (state > ASBRU_REJECTED) say(result, " (byte %u)", state);
 }
 
+/* What is wrong with the table: for a plan, with its entry's bytes. */
+static void explain_table(Result *result, const File *table) {
+    say(result, "the table is refused, and no record is looked at: ");
+    if (result->number >= ASBRU_REFUSED_PARENT) {
+        say(result, "plan %u, entry", result->plan);
+        for (size_t k = 0; k < ASBRU_ENTRY; k++) say(result, " %02X", table->bytes[ASBRU_HEADER + ASBRU_ENTRY * result->plan + k]);
+        say(result, ": ");
+    }
+    say(result, "%s", asbru_number_text(result->number));
+}
+
+/* Where the account of a step breaks: the picks are to explain the plan together with all before it. */
+static void explain_states(Result *result, const uint8_t *step, size_t n) {
+    size_t p = result->plan;
+    say(result, "step %u: no picks explain plan %zu, which is shown ", result->step, p);
+    say_state(result, step[ASBRU_WORD * n + p]);
+    say(result, "; before the step it was ");
+    say_state(result, result->step > 1 ? step[p - n] : (unsigned)ASBRU_INACTIVE);
+    if (p == 1) say(result, "; plan 0 is taken as shown");
+    if (p > 1) say(result, "; plans 0 to %zu are taken as shown", p - 1);
+}
+
 static void explain_refusal(Result *result, const File *table, const File *record) {
-    size_t n = plans_of(table), p = result->plan;
+    size_t n = plans_of(table);
     const uint8_t *step = record->bytes + ASBRU_HEADER + asbru_step_size(n) * (result->step - (size_t)1);
     switch (result->number) {
-    case ASBRU_REFUSED_PARENT:
-    case ASBRU_REFUSED_UNDEFINED:
-    case ASBRU_REFUSED_UNFIT:
-    case ASBRU_REFUSED_WAIT:
-        say(result, "the table is refused, and the record was not looked at: plan %zu: %s", p, asbru_number_text(result->number));
-        break;
     case ASBRU_REFUSED_WORD:
-        say(result, "step %u: the word of plan %zu is wrong: ", result->step, p);
-        explain_word(result, asbru_get_word(step, p));
+        say(result, "step %u: the word of plan %u is wrong: ", result->step, result->plan);
+        explain_word(result, asbru_get_word(step, result->plan));
         break;
     case ASBRU_REFUSED_RECORD_HEADER: explain_header(result, table, record); break;
     case ASBRU_REFUSED_RECORD_LENGTH: explain_length(result, table, record); break;
-    case ASBRU_REFUSED_UNEXPLAINED:
-        say(result, "step %u: no picks explain plan %zu, which is shown ", result->step, p);
-        say_state(result, step[ASBRU_WORD * n + p]);
-        say(result, "; before the step it was ");
-        say_state(result, result->step > 1 ? step[p - n] : (unsigned)ASBRU_INACTIVE);
-        break;
-    default: say(result, "the table is refused, and the record was not looked at: %s", asbru_number_text(result->number));
+    case ASBRU_REFUSED_UNEXPLAINED: explain_states(result, step, n); break;
+    default: explain_table(result, table);
     }
 }
 
@@ -266,7 +294,7 @@ static void explain(Result *result, const File *table, const File *record) {
     if (result->verdict == ACCEPTED && result->step == 0) {
         say(result, "the record is of good form and has no steps");
     } else if (result->verdict == ACCEPTED) {
-        say(result, "for each of the %u steps some picks lead to the states shown", result->step);
+        say(result, "for each of the %u step%s some picks lead to the states shown", result->step, plural(result->step));
     } else {
         explain_refusal(result, table, record);
     }
@@ -276,7 +304,7 @@ static void explain(Result *result, const File *table, const File *record) {
 
 /* All of one pair, the table having been looked at. */
 static Result judge(char *program, const File *table, const File *record) {
-    Result result = {NOT_JUDGED, 0, 0, 0, 0, ""};
+    Result result = NOTHING;
     if (!begins_as_record(record, &result)) return result;
     if (table->length + record->length <= PROGRAM_TAKES) {
         judge_by_program(program, table, record, &result);
@@ -298,7 +326,8 @@ static void print_line(const Result *result) {
 }
 
 static void print_record(const char *name, const Result *result) {
-    printf("%s: ", name);
+    print_name(stdout, name);
+    printf(": ");
     if (result->verdict == NOT_JUDGED) {
         printf("%s", VERDICT[NOT_JUDGED]);
     } else {
@@ -307,12 +336,12 @@ static void print_record(const char *name, const Result *result) {
     printf(": %s\n", result->words);
 }
 
-/* A text as one field of a spreadsheet's line. */
+/* A text as one field of a spreadsheet's line: it begins with no sign that makes a formula. */
 static void print_field(const char *text) {
-    putchar('"');
-    for (; *text; text++) {
-        if (*text == '"') putchar('"');
-        putchar(*text);
+    printf(strchr("=+-@", *text) && *text ? "\"./" : "\"");
+    for (const char *rest = text; *rest; rest++) {
+        char letter[] = {*rest, 0};
+        print_name(stdout, *rest == '"' ? "\"\"" : letter);
     }
     putchar('"');
 }
@@ -334,48 +363,58 @@ static void print_row(const char *name, const Result *result) {
 /* ---- The two ways to call it ---- */
 
 static void complain(const char *name, const char *what) {
-    fprintf(stderr, "check: %s: %s; nothing is judged\n", name, what);
+    fputs("check: ", stderr);
+    print_name(stderr, name);
+    fprintf(stderr, ": %s; nothing is judged\n", what);
 }
 
-/* Reads a file, or says why not. */
-static int load(const char *name, File *file) {
-    file->name = name;
-    file->bytes = read_file(name, &file->length);
-    if (file->bytes) return 1;
-    complain(name, strerror(errno));
-    return 0;
+/* Reads a regular file; NULL in its bytes where that cannot be done, and words that say why. */
+static void load(File *file, Result *result) {
+    struct stat about;
+    file->bytes = NULL;
+    if (stat(file->name, &about) != 0) {
+        say(result, "%s", strerror(errno));
+    } else if (S_ISDIR(about.st_mode)) {
+        say(result, "this is a folder, and a file is wanted (check --all judges a folder)");
+    } else if (!S_ISREG(about.st_mode)) {
+        say(result, "this is no regular file");
+    } else {
+        file->bytes = read_file(file->name, &file->length);
+        if (!file->bytes) say(result, "%s", strerror(errno));
+    }
 }
 
-/* Reads and looks at the table, or says what is wrong with it. */
-static int load_table(const char *name, File *table) {
-    Result result = {NOT_JUDGED, 0, 0, 0, 0, ""};
-    if (!load(name, table)) return 0;
-    if (begins_as_table(table, &result) && has_its_length(table, &result)) return 1;
-    complain(name, result.words);
-    return 0;
+/* Reads and looks at the table; its words say what is wrong with it. */
+static int is_good_table(File *table, Result *result) {
+    load(table, result);
+    return table->bytes && begins_as_table(table, result) && has_its_length(table, result);
 }
 
 static int check_pair(char *program, const char *table_name, const char *record_name) {
-    File table, record;
-    int table_is_good = load_table(table_name, &table);
-    if (!load(record_name, &record) || !table.bytes) {
-        fputs(USAGE, stderr);
-        return NOT_JUDGED;
+    File table = {table_name, NULL, 0}, record = {record_name, NULL, 0};
+    Result of_table = NOTHING, result = NOTHING;
+    int good_table = is_good_table(&table, &of_table);
+    load(&record, &result);
+    if (table.bytes && record.bytes && has_mark(&table, "APR") && has_mark(&record, "APT")) {
+        fputs("check: the two files are swapped: the table comes first\n", stderr);
     }
-    if (has_mark(&table, "APR") && has_mark(&record, "APT")) fputs("check: the two files are swapped: the table comes first\n", stderr);
-    Result result = {NOT_JUDGED, 0, 0, 0, 0, ""};
-    if (!table_is_good) {
-        /* what is wrong with the other file is told too */
-        if (!begins_as_record(&record, &result)) complain(record_name, result.words);
-        return NOT_JUDGED;
+    if (!good_table) complain(table_name, of_table.words);
+    if (record.bytes && good_table) {
+        result = judge(program, &table, &record);
+    } else if (record.bytes) {
+        begins_as_record(&record, &result);
     }
-    result = judge(program, &table, &record);
     if (result.verdict == NOT_JUDGED) {
-        complain(record_name, result.words);
-    } else {
-        print_line(&result);
-        printf("\n%s\n", result.words);
+        if (result.words[0]) complain(record_name, result.words);
+        if (!table.bytes || !record.bytes) fputs(USAGE, stderr);
+        return NOT_JUDGED;
     }
+    print_line(&result);
+    printf("\n%s [", result.words);
+    print_name(stdout, record_name);
+    printf(" under ");
+    print_name(stdout, table_name);
+    printf("]\n");
     return result.verdict;
 }
 
@@ -384,28 +423,62 @@ static int is_same_file(const char *one, const char *other) {
     return stat(one, &a) == 0 && stat(other, &b) == 0 && a.st_dev == b.st_dev && a.st_ino == b.st_ino;
 }
 
+/* How many names with a dot in front a folder has, beside itself and the folder above. */
+static unsigned hidden_names;
+
 static int is_shown(const struct dirent *entry) {
-    return entry->d_name[0] != '.';
+    const char *name = entry->d_name;
+    if (name[0] == '.' && strcmp(name, ".") != 0 && strcmp(name, "..") != 0) hidden_names++;
+    return name[0] != '.';
 }
 
 /* Judges one file of a folder. */
 static Result judge_file(char *program, const File *table, const char *path) {
-    Result result = {NOT_JUDGED, 0, 0, 0, 0, ""};
+    Result result = NOTHING;
     File record = {path, NULL, 0};
-    record.bytes = read_file(path, &record.length);
-    if (record.bytes) {
-        result = judge(program, table, &record);
-    } else {
-        say(&result, "%s", strerror(errno));
-    }
+    load(&record, &result);
+    if (record.bytes) result = judge(program, table, &record);
     free(record.bytes);
     return result;
 }
 
+/* Whether the table passes: an empty record is then the first thing wrong. */
+static int passes(const File *table, Result *result) {
+    File none = {"", NULL, 0};
+    judge_by_library(table, &none, result);
+    if (result->number == ASBRU_REFUSED_RECORD_HEADER) return 1;
+    explain_table(result, table);
+    return 0;
+}
+
+/* Judges what stands in a folder, in the order of the names, each line being told at once. */
+static void check_files(char *program, const File *table, const char *folder, struct dirent **entries, int count, int csv,
+                        unsigned counts[VERDICTS]) {
+    for (int k = 0; k < count; k++) {
+        char path[PATH_ROOM];
+        int length = snprintf(path, sizeof path, "%s/%s", folder, entries[k]->d_name);
+        if (is_same_file(path, table->name)) continue;
+        Result result = NOTHING;
+        if (length < PATH_ROOM) {
+            result = judge_file(program, table, path);
+        } else {
+            say(&result, "the name is too long");
+        }
+        counts[result.verdict]++;
+        (csv ? print_row : print_record)(entries[k]->d_name, &result);
+        fflush(stdout);
+    }
+}
+
 static int check_folder(char *program, const char *table_name, const char *folder, int csv) {
-    File table;
-    if (!load_table(table_name, &table)) return NOT_JUDGED;
+    File table = {table_name, NULL, 0};
+    Result of_table = NOTHING;
+    if (!is_good_table(&table, &of_table) || !passes(&table, &of_table)) {
+        complain(table_name, of_table.words);
+        return NOT_JUDGED;
+    }
     struct dirent **entries;
+    hidden_names = 0;
     int entry_count = scandir(folder, &entries, is_shown, alphasort);
     if (entry_count < 0) {
         complain(folder, strerror(errno));
@@ -413,40 +486,50 @@ static int check_folder(char *program, const char *table_name, const char *folde
     }
     unsigned counts[VERDICTS] = {0};
     if (csv) puts("file,verdict,number,step,plan,plans,steps,in words");
-    for (int k = 0; k < entry_count; k++) {
-        char path[4096 + 256];
-        snprintf(path, sizeof path, "%s/%s", folder, entries[k]->d_name);
-        if (is_same_file(path, table_name)) continue;
-        Result result = judge_file(program, &table, path);
-        counts[result.verdict]++;
-        (csv ? print_row : print_record)(entries[k]->d_name, &result);
-    }
+    check_files(program, &table, folder, entries, entry_count, csv, counts);
+    if (hidden_names > 0) fprintf(stderr, "check: %u name%s with a dot in front passed over\n", hidden_names, plural(hidden_names));
     fprintf(csv ? stderr : stdout, "%u accepted, %u refused, %u not judged\n", counts[ACCEPTED], counts[REFUSED], counts[NOT_JUDGED]);
+    if (counts[ACCEPTED] + counts[REFUSED] + counts[NOT_JUDGED] == 0) complain(folder, "there is no file in this folder");
     if (counts[NOT_JUDGED] > 0 || counts[ACCEPTED] + counts[REFUSED] == 0) return NOT_JUDGED;
     return counts[REFUSED] > 0 ? REFUSED : ACCEPTED;
 }
 
+/* Says what is wrong with the call. */
+static int misused(const char *what, const char *word) {
+    fputs("check: ", stderr);
+    print_name(stderr, word);
+    fprintf(stderr, "%s\n%s", what, USAGE);
+    return NOT_JUDGED;
+}
+
 /* Follows the arguments; the status is the verdict. */
 static int follow(int count, char **arguments, char *program) {
-    if (count == 1 && strcmp(arguments[0], "--help") == 0) {
+    const char *first = count > 0 ? arguments[0] : "";
+    if (count == 1 && (strcmp(first, "--help") == 0 || strcmp(first, "-h") == 0)) {
         printf("%s%s", USAGE, HELP);
         return ACCEPTED;
     }
-    int all = count > 0 && strcmp(arguments[0], "--all") == 0;
+    int all = strcmp(first, "--all") == 0;
     int csv = all && count > 1 && strcmp(arguments[1], "--csv") == 0;
-    if (all && count == 3 + csv) return check_folder(program, arguments[1 + csv], arguments[2 + csv], csv);
-    if (!all && count == 2) return check_pair(program, arguments[0], arguments[1]);
-    fputs(USAGE, stderr);
-    return NOT_JUDGED;
+    for (int k = all + csv; k < count; k++) {
+        if (arguments[k][0] == '-') return misused(" is no option here (a file of that name is ./ and the name)", arguments[k]);
+    }
+    if (count != all + csv + 2) return misused(all ? "a table and a folder are wanted" : "a table and a record are wanted", "");
+    return all ? check_folder(program, arguments[1 + csv], arguments[2 + csv], csv) : check_pair(program, first, arguments[1]);
+}
+
+/* A standard stream that is closed would be taken by the next file that is opened. */
+static int has_streams(void) {
+    if (fcntl(STDOUT_FILENO, F_GETFD) < 0) return 0;
+    if (fcntl(STDIN_FILENO, F_GETFD) < 0 && open("/dev/null", O_RDONLY) != STDIN_FILENO) return 0;
+    return fcntl(STDERR_FILENO, F_GETFD) >= 0 || open("/dev/null", O_WRONLY) == STDERR_FILENO;
 }
 
 int main(int argc, char **argv) {
     if (argc < 2) return NOT_JUDGED;
     signal(SIGPIPE, SIG_IGN);
-    int status = follow(argc - 2, argv + 2, argv[1]);
-    if (fflush(stdout) != 0 || ferror(stdout)) {
-        complain("standard output", "cannot be written");
-        return NOT_JUDGED;
-    }
-    return status;
+    int status = has_streams() ? follow(argc - 2, argv + 2, argv[1]) : NOT_JUDGED;
+    if (fflush(stdout) == 0 && !ferror(stdout)) return status;
+    fputs("check: standard output cannot be written: what was judged is not told\n", stderr);
+    return NOT_JUDGED;
 }
