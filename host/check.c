@@ -196,9 +196,18 @@ static int run_program(char *program, const File *table, const File *record, cha
     return waitpid(child, &status, 0) == child && status == 0 && given && got == 0;
 }
 
+/* Whether an answer can be about these files: what it counts is so, and what it names is there. */
+static int is_about(const File *table, const File *record, const Result *result) {
+    size_t n = plans_of(table), steps = n ? (record->length - ASBRU_HEADER) / asbru_step_size(n) : 0;
+    if (result->verdict == ACCEPTED) return result->plan == n && result->step == steps;
+    int names_step = result->number == ASBRU_REFUSED_WORD || result->number == ASBRU_REFUSED_UNEXPLAINED;
+    return result->number >= ASBRU_REFUSED_TABLE_SHORT && result->number <= ASBRU_REFUSED_INPUT_LONG &&
+           (result->plan == 0 || result->plan < n) && (names_step ? result->step >= 1 && result->step <= steps : result->step == 0);
+}
+
 static void judge_by_program(char *program, const File *table, const File *record, Result *result) {
     char line[80];
-    if (run_program(program, table, record, line, sizeof line) && read_line(line, result)) return;
+    if (run_program(program, table, record, line, sizeof line) && read_line(line, result) && is_about(table, record, result)) return;
     result->verdict = NOT_JUDGED;
     say(result, "the program aprcheck printed no verdict");
 }
