@@ -25,15 +25,20 @@ use rules::Orders;
 use rules::PlanEntry;
 use rules::PlanState;
 
-// The new state of plan p: document 01's list, 'By the parent's new state', from the top; of several lines for one state the first that
-// fits. docs/MOVE.md lays list, definition and code side by side. What only one line needs to know is asked for in its test.
-// To read it beside the list: `parent` is the parent's new state, `state` the plan's old one. Left of `=>` stands what the plan was. A
-// state alone on its line, or behind `return` or `=>`, is what the plan becomes, and `state` there says that it stays. Between tests and
-// between states `|` is or, `&` is and, `!` is not; `||` is or too, and asks on only where it has to.
-// `table` has the plans' entries, `ranks` their ranks among their siblings, `names` of each the children named in its wait-for, `sets` its
-// children by old state, `picks` the rank that it picks, `words` the input words; `old` has the states before the step, `new` the new
-// states of the plans before p, its parent's among them: parents stand before their children, and plans move in table order. The root acts
-// as if it had a parent.
+// The new state of plan p: document 01's list, 'By the parent's new state', from the top; where a state has several outcomes, the first
+// whose test fits, and `else` means that none before it did. docs/MOVE.md lays list, definition and code side by side.
+// To read it beside the list, begin at `let parent`: above that stands what the function is handed, and what is proved of it. `parent` is
+// the parent's new state, `state` the plan's old one; each test asks for the rest itself. Left of `=>` stands what the plan was. A state
+// alone on its line, or behind `return` or `=>`, is what the plan becomes, and `state` there says that it stays. Of `PlanState::X` and
+// `Condition::X` read the X. `parent.is(X)`: the parent is X. Selection is Considered, Possible and Ready, execution Activated and
+// Suspended, ended Completed, Aborted and Rejected. `orders(..).considers`: the parent considers it; likewise `activates` and `retries`.
+// Between tests and between states `|` is or, between tests `&` is and; `!` before a test is not. `||` is or too: it asks its right side
+// only if the left says no, which spares most plans the rest of the first test.
+// `table` has the plans' entries, `words` their input words, `old` the states before the step, `new` the new states of the plans before
+// p, its parent's among them: parents stand before their children, and plans move in table order. For each plan, `ranks` has its rank
+// among its siblings, `names` its children that are named in its wait-for, `sets` its children by old state, `picks` the rank that it
+// picks. The root acts as if under a parent that stays Activated, considers it when Inactive, activates it when Ready and never retries
+// it.
 pub fn next_state(
     table: &[u8],
     ranks: &[u8],
@@ -55,7 +60,7 @@ pub fn next_state(
     if parent.is(PlanState::Inactive) || parent.in_selection() {
         return PlanState::Inactive;
     }
-    // ended
+    // the parent has ended
     if parent.is_ended() {
         if state.in_selection() {
             return PlanState::Rejected;
@@ -65,7 +70,7 @@ pub fn next_state(
         }
         return state;
     }
-    // Activated or Suspended: by the plan's old state
+    // what is left, Activated or Suspended: by the plan's old state
     match state {
         PlanState::Inactive => {
             if orders(table, ranks, sets, picks, old, parent, p).considers {
@@ -123,7 +128,7 @@ pub fn next_state(
                 state
             }
         }
-        // ended
+        // the plan has ended
         PlanState::Completed | PlanState::Rejected => state,
         PlanState::Aborted => {
             if orders(table, ranks, sets, picks, old, parent, p).retries {
@@ -199,8 +204,8 @@ fn all_ended(sets: &[u64], p: usize) -> bool
     (waiting | begun) == 0
 }
 
-// What plan p is ordered, given its parent's new state: nothing unless the parent was and stays Activated, and a retry only with
-// retry-aborted. The root acts as if under a parent that considers it when Inactive and activates it when Ready.
+// What plan p is ordered, given its parent's new state: nothing unless the parent was and stays Activated, and a retry only if the parent
+// has retry-aborted. The root acts as if under a parent that considers it when Inactive and activates it when Ready.
 fn orders(
     table: &[u8],
     ranks: &[u8],
