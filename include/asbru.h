@@ -51,20 +51,22 @@
  * - Words are of one step: nothing is kept of them. A bit that should count in the next step is set again there.
  * - An absent filter, setup, reactivate or complete always holds, and an absent suspend or abort never does. Bits of an absent condition
  *   move nothing (but see number 12). So a plan whose complete is absent completes as soon as its children let it, if nothing aborts or
- *   suspends it: a leaf in the step after its activation, and so does a plan with wait number 0 and without wait-for-optional, before
- *   it has considered any child. A table with a wait number forgotten gives an empty treatment that is in order.
- * - A plan that is Considered is Rejected in the step in which its filter is present, does not hold, is not overridable and is not said to
- *   be satisfiable; a Possible one by its setup. It stays Rejected unless a plan above it is retried. So where nothing is known yet, the
- *   word of a plan that has them is not 0 but ASBRU_SATISFIABLE of both.
- * - A manual condition holds while its pattern is satisfied and it is triggered, both in the same word; a trigger alone does nothing.
- *   Override makes an overridable condition hold whatever else the word says. On a condition that is not manual a trigger is not
- *   looked at, nor is an override on one that is not overridable.
- * - Of abort, suspend and complete the first that holds counts, in this order. A Suspended plan does not complete: it is reactivated first.
- * - The pick is looked at where an any-order plan may activate a child: it was Activated and stays so, none of its children is in execution
- *   and, with retry-aborted, none is Aborted. If the child of that rank is Ready, it is activated; if it is not, the pick counts for
- *   nothing and the Ready child of lowest rank is activated. So a pick of 0, which is that of an empty word, is a pick too, and a child
- *   cannot be held back by picking one that is not Ready.
- * - A plan moves by one state in a step, and a child feels its parent's new state in the same step: where a plan ends, its children in
+ *   suspends it: a leaf does so in the step after its activation, and so does a plan with wait number 0 and without wait-for-optional,
+ *   before it has considered any child. A root without complete and without wait-for-optional whose wait number was forgotten gives an
+ *   empty treatment that is in order.
+ * - A plan that is Considered is Rejected in the step in which its filter is present, does not hold, is not overridable and is not said
+ *   to be satisfiable; a Possible one by its setup. It stays Rejected unless a plan above it is retried. So where nothing is known yet,
+ *   the word of a plan that has them is not 0 but ASBRU_SATISFIABLE of both.
+ * - A manual condition that is not overridden holds while its pattern is satisfied and it is triggered, both in the same word; a trigger
+ *   alone does nothing. Override makes an overridable condition hold whatever else the word says (number 12 apart). On a condition that
+ *   is not manual a trigger is not looked at, nor is an override on one that is not overridable.
+ * - Of an Activated plan abort counts first, then suspend, then complete, if its children let it; of a Suspended one abort, then
+ *   reactivate. It does not complete while it is Suspended.
+ * - The pick moves something only where an any-order plan may activate a child (number 12 reads it always): the plan was Activated and
+ *   stays so, none of its children was in execution and, with retry-aborted, none was Aborted. If the child of that rank was Ready, it
+ *   is activated; if it was not, the pick counts for nothing and the Ready child of lowest rank is activated. So a pick of 0, which is
+ *   that of an empty word, is a pick too, and a child cannot be held back by picking one that is not Ready.
+ * - A plan moves at most once in a step, and a child feels its parent's new state in the same step: where a plan ends, its children in
  *   selection are Rejected and those in execution Aborted with it. From all plans Inactive the root is Activated after four steps and
  *   its first children after eight, at the earliest.
  *
@@ -166,7 +168,8 @@ enum asbru_state {
 #define ASBRU_PICK_BITS ASBRU_PICK(63)
 
 /*
- * The number of an answer: given exactly when what stands above it is so. In brackets what else the answer names.
+ * The number of an answer: given exactly when what stands above it is the first that is so, in the order told under ANSWERS. In brackets
+ * what else the answer names.
  */
 enum asbru_answer {
     ASBRU_DONE = 0,
