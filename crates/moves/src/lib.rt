@@ -29,11 +29,12 @@ use rules::PlanState;
 // whose test fits, and `else` means that none before it did. docs/MOVE.md lays list, definition and code side by side.
 // To read it beside the list, begin at `let parent`: above that stands what the function is handed, and what is proved of it. `parent` is
 // the parent's new state, `state` the plan's old one; each test asks for the rest itself. Left of `=>` stands what the plan was. A state
-// alone on its line, or behind `return` or `=>`, is what the plan becomes, and `state` there says that it stays. Of `PlanState::X` and
-// `Condition::X` read the X. `parent.is(X)`: the parent is X. Selection is Considered, Possible and Ready, execution Activated and
-// Suspended, ended Completed, Aborted and Rejected. `orders(..).considers`: the parent considers it; likewise `activates` and `retries`.
-// Between tests and between states `|` is or, between tests `&` is and; `!` before a test is not. `||` is or too: it asks its right side
-// only if the left says no, which spares most plans the rest of the first test.
+// alone on its line, or behind `return` or `=>`, is what the plan becomes, and `state` there says that it stays, which the list leaves
+// unsaid at Inactive, Ready, Activated and Suspended. Of `PlanState::X` and `Condition::X` read the X. `parent.is(X)`: the parent is X.
+// Selection is Considered, Possible and Ready, execution Activated and Suspended, ended Completed, Aborted and Rejected.
+// `orders(..).considers`: the parent considers it; likewise `activates` and `retries`. Between tests and between states `|` is or,
+// between tests `&` is and; `!` before a test is not. `||` is or too: it asks its right side only if the left says no, which spares plans
+// under an Inactive one the rest of the first test.
 // `table` has the plans' entries, `words` their input words, `old` the states before the step, `new` the new states of the plans before
 // p, its parent's among them: parents stand before their children, and plans move in table order. For each plan, `ranks` has its rank
 // among its siblings, `names` its children that are named in its wait-for, `sets` its children by old state, `picks` the rank that it
