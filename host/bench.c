@@ -39,7 +39,7 @@ static void need(int ok, const char *what) {
 }
 
 /*
- * A table of n plans with all bodies: an unordered root with up to 40 children, and up to 6 under each other plan. Every plan but the
+ * A table of n plans with bodies 0 to 4: an unordered root with up to 40 children, and up to 6 under each other plan. Every plan but the
  * root can be aborted and is then retried, and those right under the root complete only with it, so that the tree goes on moving
  * however long the record is.
  */

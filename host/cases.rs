@@ -113,9 +113,11 @@ enum Shape {
     Bushy,
     /// Any place that the parent rule allows.
     Mixed,
+    /// Two children a plan, for the bodies that have just two; of an even number of plans one has one child.
+    Twos,
 }
 
-const SHAPES: [Shape; 4] = [Shape::Wide, Shape::Deep, Shape::Bushy, Shape::Mixed];
+const SHAPES: [Shape; 6] = [Shape::Wide, Shape::Deep, Shape::Bushy, Shape::Mixed, Shape::Twos, Shape::Twos];
 
 /// The parents of n plans in preorder; no plan gets more than `most_children`.
 fn parents(dice: &mut Dice, n: usize, shape: Shape, most_children: usize) -> Vec<usize> {
@@ -137,6 +139,12 @@ fn parents(dice: &mut Dice, n: usize, shape: Shape, most_children: usize) -> Vec
             Shape::Deep => deepest,
             Shape::Bushy => dice.between(0, deepest.min(2)),
             Shape::Mixed => dice.between(0, deepest),
+            Shape::Twos => {
+                let lack_one = |level: &usize| children[open[*level]] == 1;
+                let deepest_lacking = (0..deepest).rev().find(lack_one);
+                let all_are_needed = (0..deepest).filter(lack_one).count() >= n - p;
+                deepest_lacking.filter(|_| all_are_needed || dice.percent(50)).unwrap_or(deepest)
+            }
         };
         let parent = open[level..]
             .iter()
@@ -152,8 +160,11 @@ fn parents(dice: &mut Dice, n: usize, shape: Shape, most_children: usize) -> Vec
 /// How the fields of one table are rolled: densities in percent.
 #[derive(Clone)]
 struct Style {
-    /// One body for all plans with children, or any.
+    /// One body for all plans with children, or any of 1 to 4.
     body: Option<u8>,
+    /// Of plans with two children, those that have one of the bodies 5 to 8 instead.
+    for_two: usize,
+    /// The flags of a plan with children. No body from 5 on has retry-aborted.
     retry: usize,
     optional: usize,
     named: usize,
@@ -178,6 +189,7 @@ enum Wait {
 /// No conditions, no retries: a tree that runs down to its leaves and completes all the way up.
 const GENTLE: Style = Style {
     body: None,
+    for_two: 0,
     retry: 0,
     optional: 0,
     named: 100,
@@ -187,6 +199,19 @@ const GENTLE: Style = Style {
     overridable: 0,
     wait: Wait::All,
 };
+
+/// Bodies for two wherever they fit, in plans that go on until they are told to complete.
+fn style_of_turns(dice: &mut Dice) -> Style {
+    Style {
+        for_two: 100,
+        optional: 70,
+        complete: 100,
+        wait: dice.one_of(&[Wait::Zero, Wait::Zero, Wait::Low]),
+        present: dice.one_of(&[30, 100]),
+        manual: 0,
+        ..any_style(dice)
+    }
+}
 
 fn any_style(dice: &mut Dice) -> Style {
     // Any-order twice: of its rules the pick is the one that is reached least.
@@ -199,6 +224,7 @@ fn any_style(dice: &mut Dice) -> Style {
     ];
     Style {
         body: if dice.percent(50) { Some(dice.one_of(&bodies)) } else { None },
+        for_two: dice.one_of(&[0, 50, 90, 100]),
         retry: dice.one_of(&[0, 50, 100]),
         optional: dice.one_of(&[0, 0, 50, 100]),
         named: dice.one_of(&[0, 50, 50, 90, 100]),
@@ -224,13 +250,25 @@ fn wait_number(dice: &mut Dice, wait: Wait, named: usize) -> usize {
     }
 }
 
+fn body_for_two(dice: &mut Dice) -> u8 {
+    dice.between(reference::ON_ABORT.into(), reference::IF_THEN_ELSE.into()) as u8
+}
+
 /// A table of these parents. It passes the checks unless the parents themselves break a rule.
 fn table_of(dice: &mut Dice, parents: &[usize], style: &Style) -> Vec<u8> {
     let n = parents.len();
     let has_children = |p: usize| parents.contains(&p);
+    let bodies: Vec<u8> = (0..n)
+        .map(|p| match parents.iter().filter(|&&parent| parent == p).count() {
+            0 => reference::LEAF,
+            2 if dice.percent(style.for_two) => body_for_two(dice),
+            _ => style.body.unwrap_or(dice.between(1, 4) as u8),
+        })
+        .collect();
     let flags: Vec<u8> = (0..n)
         .map(|p| {
-            let retry = has_children(p) && dice.percent(style.retry);
+            let may_retry = has_children(p) && !reference::is_for_two(bodies[p]);
+            let retry = may_retry && dice.percent(style.retry);
             let optional = has_children(p) && dice.percent(style.optional);
             let named = p != 0 && dice.percent(style.named);
             u8::from(retry) | u8::from(optional) << 1 | u8::from(named) << 2
@@ -249,7 +287,7 @@ fn table_of(dice: &mut Dice, parents: &[usize], style: &Style) -> Vec<u8> {
         }
         table.extend((parents[p] as u16).to_le_bytes());
         table.extend([
-            if has_children(p) { style.body.unwrap_or(dice.between(1, 4) as u8) } else { reference::LEAF },
+            bodies[p],
             flags[p],
             present,
             present & condition_bits(dice, style.manual),
@@ -285,6 +323,14 @@ pub fn good_table(dice: &mut Dice, n: usize) -> Vec<u8> {
     let shape = dice.one_of(&SHAPES);
     let parents = parents(dice, n, shape, reference::MOST_CHILDREN);
     let style = any_style(dice);
+    table_of(dice, &parents, &style)
+}
+
+/// A small table of bodies for two.
+fn table_of_turns(dice: &mut Dice) -> Vec<u8> {
+    let n = dice.one_of(&[3, 3, 5, 7]);
+    let parents = parents(dice, n, Shape::Twos, 2);
+    let style = style_of_turns(dice);
     table_of(dice, &parents, &style)
 }
 
@@ -360,12 +406,12 @@ fn spoil_entry(dice: &mut Dice, table: &mut [u8]) {
     }
     let p = if dice.percent(15) { 0 } else { dice.below(entries) };
     let entry = &mut table[HEADER + ENTRY * p..HEADER + ENTRY * (p + 1)];
-    match dice.below(9) {
+    match dice.below(11) {
         0 => {
             let parent = dice.one_of(&[p, p + 1, p.saturating_sub(2), p / 2, 256, 65_535]) as u16;
             entry[0..2].copy_from_slice(&parent.to_le_bytes());
         }
-        1 => entry[2] = dice.below(6) as u8,
+        1 => entry[2] = dice.below(10) as u8,
         2 => entry[2] = dice.byte(),
         // Any bit of the flags, conditions, manual or overridable.
         3 | 4 => entry[dice.between(3, 6)] ^= 1 << dice.below(8),
@@ -373,6 +419,11 @@ fn spoil_entry(dice: &mut Dice, table: &mut [u8]) {
         5 => entry[4] &= dice.byte(),
         6 => entry[7] = entry[7].wrapping_add(1),
         7 => entry[7] = dice.byte(),
+        // A body for two children, however many there are, or one that retries.
+        8 | 9 => {
+            entry[2] = body_for_two(dice);
+            entry[3] |= u8::from(dice.percent(50)) << reference::RETRY_ABORTED;
+        }
         _ => entry[dice.below(ENTRY)] ^= 1 << dice.below(8),
     }
 }
@@ -391,13 +442,21 @@ pub struct Mood {
 }
 
 pub fn mood(dice: &mut Dice) -> Mood {
-    let (satisfied, satisfiable, triggered, overridden) = match dice.below(8) {
+    let number = dice.below(8);
+    mood_of(number)
+}
+
+const INTERRUPTED: usize = 2;
+const ABORTING: usize = 3;
+
+fn mood_of(number: usize) -> Mood {
+    let (satisfied, satisfiable, triggered, overridden) = match number {
         // All goes well.
         0 | 1 => ([90, 90, 3, 70, 2, 40], 97, 80, 5),
         // Many interruptions.
-        2 => ([85, 85, 30, 50, 3, 20], 97, 80, 5),
+        INTERRUPTED => ([85, 85, 30, 50, 3, 20], 97, 80, 5),
         // Many aborts.
-        3 => ([90, 90, 5, 60, 20, 20], 95, 80, 5),
+        ABORTING => ([90, 90, 5, 60, 20, 20], 95, 80, 5),
         // Slow selection, many rejections.
         4 => ([40, 40, 5, 50, 5, 30], 60, 60, 10),
         // Nothing happens.
@@ -435,6 +494,10 @@ fn good_word(dice: &mut Dice, plan: &Plan, mood: &Mood) -> u32 {
     if plan.body == reference::ANY_ORDER {
         word = with_pick(word, dice.below(plan.children.len()));
     }
+    if plan.body == reference::IF_THEN_ELSE {
+        // the second branch, not yet known, the first branch
+        word = with_if(word, dice.one_of(&[0, 2, 3]));
+    }
     word
 }
 
@@ -447,7 +510,7 @@ fn bytes_of_words(words: &[u32]) -> Vec<u8> {
 }
 
 fn spoil_words(dice: &mut Dice, words: &mut Vec<u8>, plans: &[Plan]) {
-    match dice.below(10) {
+    match dice.below(12) {
         0 => spoil_slice_length(dice, words),
         1 => words.iter_mut().for_each(|byte| *byte = dice.byte()),
         2 => change_word(dice, words, |dice, word| with_pick(word, dice.below(64))),
@@ -463,12 +526,22 @@ fn spoil_words(dice: &mut Dice, words: &mut Vec<u8>, plans: &[Plan]) {
             let filter_or_setup = dice.below(2);
             word & !(1 << (6 + filter_or_setup)) | 1 << filter_or_setup
         }),
+        6 | 7 => change_word(dice, words, any_if),
         _ => change_word(dice, words, |dice, word| word ^ 1 << dice.below(32)),
     }
 }
 
 fn with_pick(word: u32, pick: usize) -> u32 {
     word & !(63 << 24) | (pick as u32) << 24
+}
+
+/// Bits 20 and 21: that the condition of an if-then-else is satisfied, and satisfiable.
+fn with_if(word: u32, bits: u32) -> u32 {
+    word & !(3 << 20) | bits << 20
+}
+
+fn any_if(dice: &mut Dice, word: u32) -> u32 {
+    with_if(word, dice.one_of(&[1, 1, 2, 3]))
 }
 
 fn change_word(dice: &mut Dice, words: &mut [u8], change: impl Fn(&mut Dice, u32) -> u32) {
@@ -518,9 +591,14 @@ fn states_of_others(dice: &mut Dice) -> Vec<u8> {
 pub fn good_states(dice: &mut Dice, plans: &[Plan]) -> Vec<u8> {
     let of_leaves = states_of_leaves(dice);
     let of_others = states_of_others(dice);
+    likely_states(dice, plans, &of_leaves, &of_others)
+}
+
+/// The same, of leaves and of plans with children mostly one of those given.
+fn likely_states(dice: &mut Dice, plans: &[Plan], of_leaves: &[u8], of_others: &[u8]) -> Vec<u8> {
     let mut states = vec![reference::INACTIVE; plans.len()];
     for (p, plan) in plans.iter().enumerate() {
-        let likely = if plan.body == reference::LEAF { &of_leaves } else { &of_others };
+        let likely = if plan.body == reference::LEAF { of_leaves } else { of_others };
         for _ in 0..3 {
             states[p] = if dice.percent(90) { dice.one_of(likely) } else { dice.below(9) as u8 };
             if !reference::breaks_a_rule(plans, &states, p) {
@@ -583,10 +661,13 @@ fn spoil_siblings(dice: &mut Dice, states: &mut Vec<u8>, plans: &[Plan]) {
 fn good_record(dice: &mut Dice, plans: &[Plan], steps: usize) -> Vec<u8> {
     let mut record = header(b"APR", plans.len());
     let mut states = vec![reference::INACTIVE; plans.len()];
-    let mut temper = mood(dice);
+    // Where a body for two is at the top, its turns are to come.
+    let turns = reference::is_for_two(plans[0].body) && dice.percent(70);
+    let next_mood = |dice: &mut Dice| if turns { mood_of(dice.one_of(&[INTERRUPTED, ABORTING])) } else { mood(dice) };
+    let mut temper = next_mood(dice);
     for _ in 0..steps {
         if dice.percent(10) {
-            temper = mood(dice);
+            temper = next_mood(dice);
         }
         let words = good_words(dice, plans, &temper);
         states = reference::new_states(&reference::Before { plans, states: &states, words: &words });
@@ -614,6 +695,7 @@ fn spoil_record(dice: &mut Dice, record: &mut Vec<u8>, plans: &[Plan]) {
         6..=9 => spoil_length(dice, record),
         10 => record.truncate(dice.below(HEADER)),
         11..=34 => spoil_word_in_record(dice, record, plans.len()),
+        35..=49 => spoil_turn(dice, record, plans),
         _ => spoil_state_in_record(dice, record, plans),
     }
 }
@@ -631,7 +713,9 @@ fn step_in_record(dice: &mut Dice, record: &[u8], n: usize) -> Option<(usize, us
 fn spoil_word_in_record(dice: &mut Dice, record: &mut Vec<u8>, n: usize) {
     if let Some((words_start, states_start)) = step_in_record(dice, record, n) {
         let part = &mut record[words_start..states_start];
-        change_word(dice, part, |dice, word| word ^ 1 << dice.below(32));
+        let some_bit = |dice: &mut Dice, word: u32| word ^ 1 << dice.below(32);
+        let change = if dice.percent(50) { some_bit } else { any_if };
+        change_word(dice, part, change);
         cut_after_sometimes(dice, record, states_start + n);
     }
 }
@@ -682,6 +766,33 @@ fn move_pick(dice: &mut Dice, states: &mut [u8], plans: &[Plan]) {
     }
     if !ready.is_empty() && dice.percent(80) {
         states[dice.one_of(&ready)] = reference::ACTIVATED;
+    }
+}
+
+/// Where a plan with a body for two was and is shown Activated: a child that is shown considered is shown Inactive instead, or one that
+/// is left Inactive is shown Considered.
+fn spoil_turn(dice: &mut Dice, record: &mut Vec<u8>, plans: &[Plan]) {
+    let n = plans.len();
+    let steps = record.len().saturating_sub(HEADER) / (5 * n);
+    let is_activated = |at: usize| record[at] == reference::ACTIVATED;
+    let is_ordered = |&(states_start, child): &(usize, usize)| {
+        let parent = plans[child].parent.filter(|&q| reference::is_for_two(plans[q].body));
+        parent.is_some_and(|q| is_activated(states_start + q) && is_activated(states_start - 5 * n + q))
+    };
+    let shown = dice.one_of(&[reference::INACTIVE, reference::CONSIDERED]);
+    let was_inactive = |&(states_start, child): &(usize, usize)| {
+        record[states_start - 5 * n + child] == reference::INACTIVE && record[states_start + child] == shown
+    };
+    // from step 2 on, for before it no plan is Activated
+    let places: Vec<(usize, usize)> = (1..steps)
+        .flat_map(|step| (1..n).map(move |child| (HEADER + 5 * n * step + 4 * n, child)))
+        .filter(is_ordered)
+        .filter(was_inactive)
+        .collect();
+    if !places.is_empty() {
+        let (states_start, child) = dice.one_of(&places);
+        record[states_start + child] = reference::CONSIDERED - shown;
+        cut_after_sometimes(dice, record, states_start + n);
     }
 }
 
@@ -754,6 +865,9 @@ impl Maker {
     }
 
     fn step_call(&mut self) -> Call {
+        if self.dice.percent(20) {
+            return turning_call(&mut self.dice);
+        }
         let chosen = self.dice.below(POOL);
         let mut call = self.good_call(Kind::Step, chosen);
         match self.dice.below(100) {
@@ -814,10 +928,11 @@ impl Maker {
                 continues: None,
             };
         }
-        let n = plan_count(&mut self.dice);
-        let mut table = good_table(&mut self.dice, n);
+        let dice = &mut self.dice;
+        let n = plan_count(dice);
+        let mut table = if dice.percent(30) { table_of_turns(dice) } else { good_table(dice, n) };
         let plans = read_good_table(&table);
-        let steps = record_steps(&mut self.dice, n);
+        let steps = record_steps(&mut self.dice, plans.len());
         let mut record = good_record(&mut self.dice, &plans, steps);
         match self.dice.below(100) {
             0..=24 => {}
@@ -863,7 +978,7 @@ fn restless_call(dice: &mut Dice) -> Call {
             entry[4] = 1 << reference::ABORT;
             words.push(1 << reference::ABORT);
         } else {
-            entry[3] |= 1 << reference::RETRY_ABORTED;
+            entry[3] |= u8::from(!reference::is_for_two(plan.body)) << reference::RETRY_ABORTED;
             entry[4] = 1 << reference::COMPLETE;
             let any_order = plan.body == reference::ANY_ORDER;
             words.push(with_pick(0, if any_order { dice.below(plan.children.len()) } else { 0 }));
@@ -872,6 +987,25 @@ fn restless_call(dice: &mut Dice) -> Call {
     let budget = if dice.percent(50) { 65_535 } else { dice.between(0, 2000) as u16 };
     let states = vec![reference::INACTIVE; n];
     Call { kind: Kind::Rest, table, states, words: bytes_of_words(&words), budget, continues: None }
+}
+
+/// A step of plans with bodies for two that are Activated, over children in states that these bodies tell apart; at times all are told to
+/// complete, and at times a child or a word is spoiled.
+fn turning_call(dice: &mut Dice) -> Call {
+    let table = table_of_turns(dice);
+    let plans = read_good_table(&table);
+    let of_leaves = dice.one_of(&[[7, 7, 0, 3], [5, 4, 0, 3], [6, 7, 8, 0], [4, 7, 6, 3]]);
+    let mut states = likely_states(dice, &plans, &of_leaves, &[4]);
+    let mood = mood(dice);
+    let told = u32::from(dice.percent(50)) << reference::COMPLETE;
+    let words: Vec<u32> = good_words(dice, &plans, &mood).iter().map(|word| word | told).collect();
+    let mut words = bytes_of_words(&words);
+    match dice.below(10) {
+        0 => change_word(dice, &mut words, any_if),
+        1 => spoil_siblings(dice, &mut states, &plans),
+        _ => {}
+    }
+    Call { kind: Kind::Step, table, states, words, budget: 0, continues: None }
 }
 
 /// A long run to rest: down a deep tree and up again.

@@ -223,8 +223,12 @@ static void judge_by_library(const File *table, const File *record, Result *resu
 
 /* ---- Saying what the answer means ---- */
 
-/* What is wrong with the word of a plan in a record: the first reason of number 12 that is there. */
-static void explain_word(Result *result, uint32_t word) {
+static const uint8_t *entry_of(const File *table, size_t plan) {
+    return table->bytes + ASBRU_HEADER + ASBRU_ENTRY * plan;
+}
+
+/* What is wrong with the word of a plan of this body in a record: the first reason of number 12 that is there. */
+static void explain_word(Result *result, uint32_t word, unsigned body) {
     static const char *const NAME[] = {"filter", "setup"};
     for (unsigned c = ASBRU_FILTER; c <= ASBRU_SETUP; c++) {
         if ((word & ASBRU_SATISFIED(c)) && !(word & ASBRU_SATISFIABLE(c))) {
@@ -232,7 +236,13 @@ static void explain_word(Result *result, uint32_t word) {
             return;
         }
     }
-    say(result, word & ASBRU_PICK_BITS ? "a pick is set, and a record has none" : "a bit is set that has no meaning");
+    if (word & (ASBRU_IF_SATISFIED | ASBRU_IF_SATISFIABLE) && body != ASBRU_IF_THEN_ELSE) {
+        say(result, "bit 20 or 21 is set, which are for an if-then-else, and its body is %s", asbru_body_text(body));
+    } else if (word & ASBRU_IF_SATISFIED && !(word & ASBRU_IF_SATISFIABLE)) {
+        say(result, "the condition of its if-then-else is said to be satisfied, but not to be satisfiable");
+    } else {
+        say(result, word & ASBRU_PICK_BITS ? "a pick is set, and a record has none" : "a bit is set that has no meaning");
+    }
 }
 
 /* What differs between the header of a record and that of its table. */
@@ -262,15 +272,37 @@ static void say_state(Result *result, unsigned state) {
     if (state > ASBRU_REJECTED) say(result, " (byte %u)", state);
 }
 
-/* What is wrong with the table: for a plan, with its entry's bytes. */
+/* How many children a plan of a table has. */
+static unsigned children_of(const File *table, unsigned plan) {
+    unsigned count = 0;
+    for (unsigned p = plan + 1; p < plans_of(table); p++) count += u16_at(entry_of(table, p), 0) == plan;
+    return count;
+}
+
+/* What is wrong with the entry of a plan; of a body that has exactly two children, whether that is so, and whether it retries. */
+static void explain_entry(Result *result, const File *table) {
+    const uint8_t *entry = entry_of(table, result->plan);
+    say(result, "plan %u, entry", result->plan);
+    for (size_t k = 0; k < ASBRU_ENTRY; k++) say(result, " %02X", entry[k]);
+    int for_two = result->number == ASBRU_REFUSED_UNFIT && entry[2] >= ASBRU_ON_ABORT;
+    unsigned children = children_of(table, result->plan);
+    if (for_two && children != 2) {
+        say(result, ": its body is %s, which has exactly 2 children, and it has %u", asbru_body_text(entry[2]), children);
+    } else if (for_two && entry[3] & ASBRU_RETRY_ABORTED) {
+        say(result, ": its body is %s, which does not retry, and retry-aborted is set", asbru_body_text(entry[2]));
+    } else {
+        say(result, ": %s", asbru_number_text(result->number));
+    }
+}
+
+/* What is wrong with the table. */
 static void explain_table(Result *result, const File *table) {
     say(result, "the table is refused, and no record is looked at: ");
     if (result->number >= ASBRU_REFUSED_PARENT) {
-        say(result, "plan %u, entry", result->plan);
-        for (size_t k = 0; k < ASBRU_ENTRY; k++) say(result, " %02X", table->bytes[ASBRU_HEADER + ASBRU_ENTRY * result->plan + k]);
-        say(result, ": ");
+        explain_entry(result, table);
+    } else {
+        say(result, "%s", asbru_number_text(result->number));
     }
-    say(result, "%s", asbru_number_text(result->number));
 }
 
 /* Where the account of a step breaks: the picks are to explain the plan together with all before it. */
@@ -290,7 +322,7 @@ static void explain_refusal(Result *result, const File *table, const File *recor
     switch (result->number) {
     case ASBRU_REFUSED_WORD:
         say(result, "step %u: the word of plan %u is wrong: ", result->step, result->plan);
-        explain_word(result, asbru_get_word(step, result->plan));
+        explain_word(result, asbru_get_word(step, result->plan), entry_of(table, result->plan)[2]);
         break;
     case ASBRU_REFUSED_RECORD_HEADER: explain_header(result, table, record); break;
     case ASBRU_REFUSED_RECORD_LENGTH: explain_length(result, table, record); break;

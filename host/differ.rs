@@ -16,12 +16,14 @@
 //!
 //! Status 0: N calls were made without a difference and without a move that the rules do not allow,
 //! and, from `REACH_FROM` calls on or as many as `--reach-from` says, they reached every answer number
-//! 1 to 15 and every move of a plan that the rules allow. Status 1: anything else.
+//! 1 to 15, every move of a plan that the rules allow, and all that turns.rs wants of the bodies 5 to 8.
+//! Status 1: anything else.
 
 mod cases;
 mod reference;
 #[cfg(test)]
 mod self_test;
+mod turns;
 
 use cases::{hex, Call, Kind, Maker};
 use std::io::{self, BufReader, Read, Write};
@@ -364,6 +366,16 @@ struct Counts {
     table_sizes: [u64; TREE_SIZES.len()],
     table_widths: [u64; TREE_SIZES.len()],
     table_depths: [u64; TREE_SIZES.len()],
+    turns: Turns,
+}
+
+/// What was reached of the bodies 5 to 8.
+#[derive(Default)]
+struct Turns {
+    orders: turns::Lines,
+    orders_in_records: turns::Lines,
+    waits: turns::Lines,
+    refused: turns::Lines,
 }
 
 /// Classes of sizes: the name and the largest number in it.
@@ -397,6 +409,7 @@ impl Counts {
         if number == 0 || number > 9 {
             self.add_table(&asked.call.table);
         }
+        self.turns.add(asked);
         match asked.call.kind {
             Kind::Step if number == 0 => self.add_moves(asked),
             Kind::Rest if number == 0 => self.add_run(asked),
@@ -490,6 +503,7 @@ impl Counts {
             let (plans, width, depth) = (self.table_sizes[at], self.table_widths[at], self.table_depths[at]);
             println!("  {name:<20} {plans:>12} {width:>14} {depth:>8}");
         }
+        self.turns.print();
     }
 
     fn print_answers(&self) {
@@ -524,11 +538,11 @@ impl Counts {
     fn nothing_impossible(&self) -> Result<(), String> {
         match self.first_move(|reached, possible| reached && !possible) {
             Some((old, new)) => Err(format!("IMPOSSIBLE, yet reached: the move from {old} to {new}")),
-            None => Ok(()),
+            None => self.turns.nothing_impossible(),
         }
     }
 
-    /// Every number 1 to 15 and every possible move.
+    /// Every number 1 to 15, every possible move, and what is wanted of the bodies 5 to 8.
     fn all_reached(&self) -> Result<(), String> {
         for number in 1..=LAST_NUMBER {
             if self.answers.iter().all(|kind| kind[number] == 0) {
@@ -537,7 +551,7 @@ impl Counts {
         }
         match self.first_move(|reached, possible| possible && !reached) {
             Some((old, new)) => Err(format!("NOT REACHED: the move from {old} to {new}")),
-            None => Ok(()),
+            None => self.turns.all_reached(),
         }
     }
 
@@ -546,6 +560,55 @@ impl Counts {
         (0..9)
             .flat_map(|old| (0..9).map(move |new| (old, new)))
             .find(|&(old, new)| is_wrong(self.moves[old][new] > 0, POSSIBLE_MOVES[old].contains(&new)))
+    }
+}
+
+impl Turns {
+    fn add(&mut self, asked: &Asked) {
+        let Asked { call, answer, states, .. } = asked;
+        let plans = match reference::read_table(&call.table) {
+            Ok(plans) => plans,
+            Err(_) => {
+                turns::why_refused(&call.table).into_iter().for_each(|why| self.refused.count(why));
+                return;
+            }
+        };
+        match (call.kind, number_of(*answer)) {
+            (Kind::Step, 0) => {
+                let words = reference::read_words(&call.words);
+                let before = reference::Before { plans: &plans, states: &call.states, words: &words };
+                turns::count_orders(&mut self.orders, &before, states);
+                turns::count_waits(&mut self.waits, call, &plans, states);
+            }
+            (Kind::Check, 0) => turns::count_record(&mut self.orders_in_records, &plans, &call.words),
+            (_, 0) => {}
+            _ => turns::count_refused_call(&mut self.refused, call, &plans, *answer),
+        }
+    }
+
+    /// Each part with its name and what is wanted of it.
+    fn parts(&self) -> [(&str, &turns::Lines, Vec<String>); 4] {
+        let refusals = [turns::wanted_of_tables(), turns::wanted_of_calls()].concat();
+        [
+            ("orders of bodies 5 to 8 in steps", &self.orders, turns::wanted_orders()),
+            ("orders of bodies 5 to 8 in accepted records", &self.orders_in_records, turns::wanted_orders()),
+            ("where wait-for-optional decides", &self.waits, turns::wanted_waits()),
+            ("refusals by bodies 5 to 8", &self.refused, refusals),
+        ]
+    }
+
+    fn print(&self) {
+        for (name, lines, wanted) in self.parts() {
+            lines.print(name, &wanted);
+        }
+    }
+
+    fn nothing_impossible(&self) -> Result<(), String> {
+        self.parts().iter().try_for_each(|(name, lines, wanted)| lines.are_possible(wanted).map_err(|what| format!("{what} ({name})")))
+    }
+
+    fn all_reached(&self) -> Result<(), String> {
+        self.parts().iter().try_for_each(|(name, lines, wanted)| lines.are_all(wanted).map_err(|what| format!("{what} ({name})")))
     }
 }
 

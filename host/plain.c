@@ -1,6 +1,6 @@
 /*
  * The rules in C, tuned by hand: what host/bench.c measures the proved library against. One pass over the plans gathers, for each
- * parent, seven counters in one 64-bit word, its first child that is not done, and its choice; a second pass moves the plans. Nothing
+ * parent, eight counters in one 64-bit word, its first child that is not done, and its choice; a second pass moves the plans. Nothing
  * here is proved; host/differ.rs can be run on it (`child plain`) as on the library.
  */
 #include "plain.h"
@@ -9,7 +9,7 @@
 
 enum { MOST = 256, NONE = 0xFFFF };
 enum { INACTIVE, CONSIDERED, POSSIBLE, READY, ACTIVATED, SUSPENDED, COMPLETED, ABORTED, REJECTED };
-enum { LEAF, SEQUENTIAL, PARALLEL, ANY_ORDER, UNORDERED };
+enum { LEAF, SEQUENTIAL, PARALLEL, ANY_ORDER, UNORDERED, ON_ABORT, ON_SUSPEND, ON_ABORT_OR_SUSPEND, IF_THEN_ELSE };
 enum { FILTER = 1, SETUP = 2, SUSPEND = 4, REACTIVATE = 8, ABORT = 16, COMPLETE = 32 };
 enum { RETRY = 1, OPTIONAL = 2, NAMED = 4 };
 /* of the absent conditions, those that hold */
@@ -19,17 +19,18 @@ typedef struct {
     uint16_t parent;
     uint8_t body, flags, present, manual, overridable, wait;
     uint8_t rank, children, named;
+    uint16_t done, lets; /* sets of states: see below */
 } Plan;
 
 /* What the children of a plan are at: counters of 8 bits, each at most 64. */
 #define ONE(field) (1ull << 8 * (field))
 #define COUNT(word, field) ((unsigned)((word) >> 8 * (field)) & 0xFF)
-enum { DONE_NAMED, LOST_NAMED, NOT_ENDED, WAITING, BEGUN, EXECUTING, ABORTED_ONES };
+enum { DONE_NAMED, LOST_NAMED, NOT_ENDED, WAITING, BEGUN, EXECUTING, ABORTED_ONES, IDLE };
 
 static const uint64_t counted[2][9] = {
 #define ROW(named)                                                                                                                     \
     {                                                                                                                                  \
-        ONE(NOT_ENDED) | ONE(WAITING), ONE(NOT_ENDED) | ONE(WAITING), ONE(NOT_ENDED) | ONE(WAITING), ONE(NOT_ENDED),                   \
+        ONE(NOT_ENDED) | ONE(WAITING) | ONE(IDLE), ONE(NOT_ENDED) | ONE(WAITING), ONE(NOT_ENDED) | ONE(WAITING), ONE(NOT_ENDED),       \
             ONE(NOT_ENDED) | ONE(BEGUN) | ONE(EXECUTING), ONE(NOT_ENDED) | ONE(BEGUN) | ONE(EXECUTING),                                \
             ONE(BEGUN) | (named) * ONE(DONE_NAMED), ONE(BEGUN) | ONE(ABORTED_ONES) | (named) * ONE(LOST_NAMED),                        \
             (named) * ONE(LOST_NAMED)                                                                                                  \
@@ -38,8 +39,23 @@ static const uint64_t counted[2][9] = {
 #undef ROW
 };
 
-/* a sequential plan is done with a child in this state: without retry-aborted, and with it */
-static const uint8_t done_with[2][9] = {{0, 0, 0, 0, 0, 0, 1, 1, 1}, {0, 0, 0, 0, 0, 0, 1, 0, 1}};
+/*
+ * Sets of states, a bit each, of the bodies that ask for them, without retry-aborted and with it. `done`: the plan is done with a child in
+ * one of these, so that the next one is considered; bodies 5 to 7 go on as a sequential one, but for what counts as done. `lets`: behind
+ * a child in one of these the next one may be other than Inactive.
+ */
+#define IN(state) (1 << (state))
+enum { DONE = IN(COMPLETED) | IN(ABORTED) | IN(REJECTED), RETRYING = DONE & ~IN(ABORTED) };
+enum { STARTED = IN(ACTIVATED) | IN(SUSPENDED) | IN(COMPLETED) | IN(ABORTED) };
+static const uint16_t done[9][2] = {[SEQUENTIAL] = {DONE, RETRYING},
+                                    [ON_ABORT] = {IN(ABORTED)},
+                                    [ON_SUSPEND] = {IN(SUSPENDED)},
+                                    [ON_ABORT_OR_SUSPEND] = {IN(ABORTED) | IN(SUSPENDED)}};
+static const uint16_t lets[9][2] = {[SEQUENTIAL] = {DONE, RETRYING},
+                                    [ON_ABORT] = {IN(ABORTED)},
+                                    [ON_SUSPEND] = {STARTED},
+                                    [ON_ABORT_OR_SUSPEND] = {STARTED},
+                                    [IF_THEN_ELSE] = {IN(INACTIVE)}};
 
 /* the new state under an ended parent */
 static const uint8_t cut_off[9] = {INACTIVE, REJECTED, REJECTED, REJECTED, ABORTED, ABORTED, COMPLETED, ABORTED, REJECTED};
@@ -79,7 +95,7 @@ static uint64_t read_table(const uint8_t *t, size_t length, Plan *plans) {
     for (unsigned p = 0; p < n; p++) {
         const uint8_t *e = t + 8 + 8 * p;
         Plan *plan = plans + p;
-        *plan = (Plan){(uint16_t)u16(e), e[2], e[3], e[4], e[5], e[6], e[7], 0, 0, 0};
+        *plan = (Plan){(uint16_t)u16(e), e[2], e[3], e[4], e[5], e[6], e[7], 0, 0, 0, 0, 0};
         if (p == 0) {
             if (plan->parent != NONE) return answer(6, 0, 0);
         } else {
@@ -92,14 +108,17 @@ static uint64_t read_table(const uint8_t *t, size_t length, Plan *plans) {
     }
     for (unsigned p = 0; p < n; p++) {
         const Plan *e = plans + p;
-        if (e->body > 4 || e->flags >> 3 || (e->present | e->manual | e->overridable) >> 6) return answer(7, 0, p);
+        if (e->body > IF_THEN_ELSE || e->flags >> 3 || (e->present | e->manual | e->overridable) >> 6) return answer(7, 0, p);
     }
     for (unsigned p = 0; p < n; p++) {
-        const Plan *e = plans + p;
+        Plan *e = plans + p;
         int leaf = e->body == LEAF;
         if (leaf != (e->children == 0) || ((e->manual | e->overridable) & ~e->present) || (p == 0 && e->flags & NAMED)
-            || (leaf && (e->wait || e->flags & (RETRY | OPTIONAL))))
+            || (leaf && (e->wait || e->flags & (RETRY | OPTIONAL)))
+            || (e->body >= ON_ABORT && (e->children != 2 || e->flags & RETRY)))
             return answer(8, 0, p);
+        e->done = done[e->body][e->flags & RETRY];
+        e->lets = lets[e->body][e->flags & RETRY];
     }
     for (unsigned p = 0; p < n; p++)
         if (plans[p].wait > plans[p].named) return answer(9, 0, p);
@@ -110,6 +129,11 @@ static inline int contradicts(uint32_t x) {
     return (x & ~(x >> 6) & 3) != 0;
 }
 
+/* Whether bits from 20 on, picks apart, are wrong: a plan of body 8 may have 21, alone or with 20. */
+static inline int stray(const Plan *e, unsigned from_20) {
+    return from_20 && (e->body != IF_THEN_ELSE || from_20 >> 1 != 1);
+}
+
 /* One pass: what each plan's children are at. `shown` is NULL for a step, whose choices come from the picks. */
 static void survey(const Plan *plans, unsigned n, const uint8_t *old, const uint8_t *shown, Survey *s) {
     memset(s->counts, 0, n * sizeof s->counts[0]);
@@ -118,7 +142,7 @@ static void survey(const Plan *plans, unsigned n, const uint8_t *old, const uint
     for (unsigned p = 1; p < n; p++) {
         unsigned q = plans[p].parent, state = old[p];
         s->counts[q] += counted[plans[p].flags >> 2 & 1][state];
-        if (!s->first[q] && !done_with[plans[q].flags & 1][state]) s->first[q] = (uint16_t)p;
+        if (!s->first[q] && !(plans[q].done >> state & 1)) s->first[q] = (uint16_t)p;
         if (state == READY && shown) {
             /* the lowest Ready child that is shown Activated, else the highest Ready one */
             unsigned c = s->choice[q];
@@ -136,17 +160,29 @@ static void choose(const Plan *plans, unsigned n, const uint8_t *old, const uint
     }
 }
 
+/* Whether all children count as ended: of bodies 5 to 8 also an Inactive one beside an ended one, unless its turn has come. */
+static inline int all_ended(const Plan *e, uint64_t counts) {
+    if (!COUNT(counts, NOT_ENDED)) return 1;
+    if (e->body < ON_ABORT || COUNT(counts, NOT_ENDED) != 1 || !COUNT(counts, IDLE)) return 0;
+    return !((e->body == ON_ABORT || e->body == ON_ABORT_OR_SUSPEND) && COUNT(counts, ABORTED_ONES));
+}
+
 /* The new state of plan p in execution or under a parent in execution. */
-static inline unsigned move_on(const Plan *plans, const Survey *s, unsigned p, unsigned old, uint32_t x, int held, int orders) {
+static inline unsigned move_on(const Plan *plans, const Survey *s, const uint8_t *words, unsigned p, unsigned old, int held, int orders) {
     const Plan *e = plans + p;
+    uint32_t x = word_of(words, p);
     unsigned holds = x & (~(unsigned)e->manual | x >> 8);
     holds |= e->overridable & x >> 14;
     holds = (holds & e->present) | (ABSENT_HOLD & ~(unsigned)e->present);
     switch (old) {
     case INACTIVE: {
         if (!orders) return INACTIVE;
-        const Plan *q = plans + e->parent;
-        return p == 0 || q->body != SEQUENTIAL || s->first[e->parent] == p ? CONSIDERED : INACTIVE;
+        if (p == 0) return CONSIDERED;
+        unsigned q = e->parent, body = plans[q].body;
+        if (body >= PARALLEL && body <= UNORDERED) return CONSIDERED;
+        if (body != IF_THEN_ELSE) return s->first[q] == p ? CONSIDERED : INACTIVE;
+        /* a first child is the plan just behind its parent */
+        return COUNT(s->counts[q], IDLE) == 2 && (word_of(words, q) >> 20 & 3) == (p == q + 1 ? 3 : 0) ? CONSIDERED : INACTIVE;
     }
     case CONSIDERED:
     case POSSIBLE: {
@@ -177,7 +213,7 @@ static inline unsigned move_on(const Plan *plans, const Survey *s, unsigned p, u
         if (holds & ABORT || e->named - COUNT(counts, LOST_NAMED) < e->wait) return ABORTED;
         if (old == SUSPENDED) return !held && holds & REACTIVATE ? ACTIVATED : SUSPENDED;
         if (held || holds & SUSPEND) return SUSPENDED;
-        int may = COUNT(counts, DONE_NAMED) >= e->wait && (!(e->flags & OPTIONAL) || !COUNT(counts, NOT_ENDED));
+        int may = COUNT(counts, DONE_NAMED) >= e->wait && (!(e->flags & OPTIONAL) || all_ended(e, counts));
         return holds & COMPLETE && may ? COMPLETED : ACTIVATED;
     }
     case ABORTED: {
@@ -193,12 +229,12 @@ static inline unsigned move_on(const Plan *plans, const Survey *s, unsigned p, u
 
 /* The new state of plan p, where `now` has those of the plans before it. */
 static inline unsigned next(const Plan *plans, const Survey *s, const uint8_t *old, const uint8_t *now, const uint8_t *words, unsigned p) {
-    if (p == 0) return move_on(plans, s, 0, old[0], word_of(words, 0), 0, 1);
+    if (p == 0) return move_on(plans, s, words, 0, old[0], 0, 1);
     unsigned q = plans[p].parent, above_now = now[q];
     if (above_now < ACTIVATED) return INACTIVE;
     if (above_now > SUSPENDED) return cut_off[old[p]];
     int held = above_now == SUSPENDED;
-    return move_on(plans, s, p, old[p], word_of(words, p), held, !held && old[q] == ACTIVATED);
+    return move_on(plans, s, words, p, old[p], held, !held && old[q] == ACTIVATED);
 }
 
 /* Check 11. */
@@ -214,11 +250,12 @@ static uint64_t check_states(const Plan *plans, unsigned n, const uint8_t *state
         int suits = up == ACTIVATED || (up == SUSPENDED && state != ACTIVATED) || state == INACTIVE
                     || ((up == COMPLETED || up == ABORTED) && state >= COMPLETED);
         int executing = state == ACTIVATED || state == SUSPENDED;
-        if (!suits || (plans[q].body == ANY_ORDER && executing && running[q])
-            || (plans[q].body == SEQUENTIAL && state != INACTIVE && undone[q]))
+        unsigned body = plans[q].body;
+        if (!suits || (body == ANY_ORDER && executing && running[q])
+            || ((body == SEQUENTIAL || body >= ON_ABORT) && state != INACTIVE && undone[q]))
             return answer(11, 0, p);
         running[q] |= (uint8_t)executing;
-        undone[q] |= !done_with[plans[q].flags & 1][state];
+        undone[q] |= !(plans[q].lets >> state & 1);
     }
     return 0;
 }
@@ -235,7 +272,7 @@ static uint64_t check_call(const uint8_t *t, size_t t_length, const uint8_t *sta
     for (unsigned p = 0; p < n; p++) {
         uint32_t x = word_of(words, p), pick = x >> 24 & 63;
         int allowed = plans[p].body == ANY_ORDER ? pick < plans[p].children : pick == 0;
-        if (x & 0xC0F00000 || !allowed || contradicts(x)) return answer(12, 0, p);
+        if (stray(plans + p, x >> 20 & 0xC0F) || !allowed || contradicts(x)) return answer(12, 0, p);
     }
     return 0;
 }
@@ -286,7 +323,7 @@ uint64_t plain_check(const uint8_t *table, size_t table_length, const uint8_t *r
         const uint8_t *shown = words + 4 * n;
         for (unsigned p = 0; p < n; p++) {
             uint32_t x = word_of(words, p);
-            if (x >> 20 || contradicts(x)) return answer(12, i, p);
+            if (stray(plans + p, x >> 20) || contradicts(x)) return answer(12, i, p);
         }
         Survey s;
         survey(plans, n, old, shown, &s);

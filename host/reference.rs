@@ -1,8 +1,10 @@
-//! A slow and plain implementation of document 01, "Requirements and rules for the build".
+//! A slow and plain implementation of document 01, "Requirements and rules for the build", and of
+//! request (i) of document 02, "Bodies for the bad turn".
 //!
-//! It is written to be read beside the document: in its order, in its words, one small function
-//! for each rule. A sentence in quotation marks is document 01's own. Nothing here is clever; where
-//! a rule can be looked up again by walking over the whole table, it is.
+//! It is written to be read beside the documents: in the order of document 01, in their words, one
+//! small function for each rule. A sentence in quotation marks is document 01's own; behind "02 (i):"
+//! it is the request's. Nothing here is clever; where a rule can be looked up again by walking over
+//! the whole table, it is.
 //!
 //! Tests, among them the brute-force search over all picks, are in self_test.rs.
 
@@ -58,6 +60,12 @@ pub const SEQUENTIAL: u8 = 1;
 pub const PARALLEL: u8 = 2;
 pub const ANY_ORDER: u8 = 3;
 pub const UNORDERED: u8 = 4;
+// 02 (i): "the bodies on abort, on suspend, on abort/suspend and if-then-else; add them as bodies 5
+//  to 8, each with exactly two children and no retry-aborted"
+pub const ON_ABORT: u8 = 5;
+pub const ON_SUSPEND: u8 = 6;
+pub const ON_ABORT_OR_SUSPEND: u8 = 7;
+pub const IF_THEN_ELSE: u8 = 8;
 
 // "bit 0 retry-aborted, bit 1 wait-for-optional, bit 2 named in the parent's wait-for"
 pub const RETRY_ABORTED: u32 = 0;
@@ -87,7 +95,17 @@ pub struct Plan {
     pub wait_number: u8,
 }
 
+/// Whether a body is one of those that have exactly two children.
+pub fn is_for_two(body: u8) -> bool {
+    matches!(body, ON_ABORT | ON_SUSPEND | ON_ABORT_OR_SUSPEND | IF_THEN_ELSE)
+}
+
 impl Plan {
+    /// The two children of a body that has exactly two.
+    pub fn first_and_second(&self) -> (usize, usize) {
+        (self.children[0], self.children[1])
+    }
+
     fn retries_aborted(&self) -> bool {
         bit(self.flags, RETRY_ABORTED)
     }
@@ -156,7 +174,7 @@ fn wait_for_holds(before: &Before, p: usize, set: impl Fn(u8) -> bool) -> bool {
 // ------------------------------------------------------------------------------------------------
 
 /// "A 32-bit word a plan and step." The bytes are a whole number of words.
-fn read_words(bytes: &[u8]) -> Vec<u32> {
+pub fn read_words(bytes: &[u8]) -> Vec<u32> {
     bytes.chunks_exact(4).map(|four| u32::from_le_bytes([four[0], four[1], four[2], four[3]])).collect()
 }
 
@@ -194,9 +212,19 @@ fn may_be_picked(plan: &Plan, pick: usize) -> bool {
     }
 }
 
-/// "Other bits 0." They are 20 to 23, 30 and 31.
+/// 02 (i): "word bit 20 (satisfied)", of the condition of an if-then-else.
+fn if_is_satisfied(word: u32) -> bool {
+    bit(word, 20)
+}
+
+/// 02 (i): "bit 21 (satisfiable)"
+fn if_is_satisfiable(word: u32) -> bool {
+    bit(word, 21)
+}
+
+/// "Other bits 0." They are 22, 23, 30 and 31; 20 and 21 are asked for by the body.
 fn has_unused_bit(word: u32) -> bool {
-    (20..24).chain(30..32).any(|number| bit(word, number))
+    (22..24).chain(30..32).any(|number| bit(word, number))
 }
 
 /// "A present condition holds when (pattern satisfied, and triggered if it is manual) or
@@ -410,7 +438,23 @@ fn may_complete(before: &Before, p: usize) -> bool {
 }
 
 fn all_children_are_ended(before: &Before, p: usize) -> bool {
-    before.plans[p].children.iter().all(|&child| has_ended(before.states[child]))
+    let mut children = before.plans[p].children.iter();
+    children.all(|&child| has_ended(before.states[child]) || counts_as_ended(before, p, child))
+}
+
+/// 02 (i): "For wait-for-optional an Inactive child counts as ended when its sibling has ended, except
+/// the second after an aborted first in 5 and 7." The request speaks of its own bodies.
+fn counts_as_ended(before: &Before, p: usize, child: usize) -> bool {
+    let plan = &before.plans[p];
+    if !is_for_two(plan.body) || before.states[child] != INACTIVE {
+        return false;
+    }
+    let (first, second) = plan.first_and_second();
+    if child == first {
+        return has_ended(before.states[second]);
+    }
+    let is_awaited = matches!(plan.body, ON_ABORT | ON_ABORT_OR_SUSPEND) && before.states[first] == ABORTED;
+    has_ended(before.states[first]) && !is_awaited
 }
 
 /// "Activated if the parent is Activated and reactivate holds"
@@ -427,6 +471,8 @@ fn orders_to(before: &Before, p: usize, parent: usize, parent_new: u8, pick: usi
         SEQUENTIAL => sequential_orders(before, p, parent),
         PARALLEL => parallel_orders(before, parent),
         ANY_ORDER => any_order_orders(before, p, parent, pick),
+        ON_ABORT | ON_SUSPEND | ON_ABORT_OR_SUSPEND => bad_turn_orders(before, p, parent),
+        IF_THEN_ELSE => if_then_else_orders(before, p, parent),
         _ => unordered_orders(before, parent),
     }
 }
@@ -436,7 +482,7 @@ fn gives_orders(before: &Before, parent: usize, parent_new: u8) -> bool {
     before.states[parent] == ACTIVATED && parent_new == ACTIVATED
 }
 
-/// "Unordered: considers, activates and retries every child." And for all four bodies: "Retry is
+/// "Unordered: considers, activates and retries every child." And for all bodies: "Retry is
 /// given only with retry-aborted, to Aborted children" (that it is Aborted, `from_ended` asks).
 fn unordered_orders(before: &Before, parent: usize) -> Orders {
     Orders { considers: true, activates: true, retries: before.plans[parent].retries_aborted() }
@@ -509,6 +555,37 @@ fn child_activated_in_any_order(before: &Before, parent: usize, pick: usize) -> 
     picked.or(lowest)
 }
 
+/// 02 (i): "In 5 to 7 the first child is run as in an unordered body; the second is considered once
+/// ..., and activated when Ready."
+fn bad_turn_orders(before: &Before, p: usize, parent: usize) -> Orders {
+    let plan = &before.plans[parent];
+    let (first, _) = plan.first_and_second();
+    if p == first {
+        return unordered_orders(before, parent);
+    }
+    Orders { considers: is_a_bad_turn(plan.body, before.states[first]), activates: true, retries: false }
+}
+
+/// 02 (i): "once the first is Aborted (5), Suspended (6) or either (7)"
+fn is_a_bad_turn(body: u8, first: u8) -> bool {
+    match body {
+        ON_ABORT => first == ABORTED,
+        ON_SUSPEND => first == SUSPENDED,
+        _ => first == ABORTED || first == SUSPENDED,
+    }
+}
+
+/// 02 (i): "In 8, while both children are Inactive, the first is considered if word bit 20 (satisfied)
+/// is set, the second if bit 21 (satisfiable) is clear; whichever is Ready is activated." The word is
+/// that of the plan with this body.
+fn if_then_else_orders(before: &Before, p: usize, parent: usize) -> Orders {
+    let (first, second) = before.plans[parent].first_and_second();
+    let both_are_inactive = before.states[first] == INACTIVE && before.states[second] == INACTIVE;
+    let word = before.words[parent];
+    let is_its_branch = if p == first { if_is_satisfied(word) } else { !if_is_satisfiable(word) };
+    Orders { considers: both_are_inactive && is_its_branch, activates: true, retries: false }
+}
+
 // ------------------------------------------------------------------------------------------------
 // States that may be handed in
 // ------------------------------------------------------------------------------------------------
@@ -521,6 +598,7 @@ pub fn breaks_a_rule(plans: &[Plan], states: &[u8], p: usize) -> bool {
             !suits_parent(states[p], states[parent])
                 || breaks_any_order(plans, states, parent, p)
                 || breaks_sequential(plans, states, parent, p)
+                || breaks_for_two(plans, states, parent, p)
         })
 }
 
@@ -552,6 +630,21 @@ fn breaks_sequential(plans: &[Plan], states: &[u8], parent: usize, p: usize) -> 
     plans[parent].body == SEQUENTIAL
         && states[p] != INACTIVE
         && lower_siblings(plans, parent, p).any(|sibling| !is_done(&plans[parent], states[sibling]))
+}
+
+/// 02 (i): "The second child may be other than Inactive in 5 only beside an Aborted first, in 6 and 7
+/// only beside a first in state 4, 5, 6 or 7; in 8 at least one child is Inactive." The second breaks it.
+fn breaks_for_two(plans: &[Plan], states: &[u8], parent: usize, p: usize) -> bool {
+    let plan = &plans[parent];
+    if !is_for_two(plan.body) || p == plan.first_and_second().0 || states[p] == INACTIVE {
+        return false;
+    }
+    let first = states[plan.first_and_second().0];
+    match plan.body {
+        ON_ABORT => first != ABORTED,
+        IF_THEN_ELSE => first != INACTIVE,
+        _ => !matches!(first, ACTIVATED | SUSPENDED | COMPLETED | ABORTED),
+    }
 }
 
 fn lower_siblings(plans: &[Plan], parent: usize, p: usize) -> impl Iterator<Item = usize> + '_ {
@@ -734,12 +827,13 @@ pub fn read_table(table: &[u8]) -> Result<Vec<Plan>, Answer> {
     refuse_lowest_plan(n, 6, 0, |p| breaks_parent_rule(table, p) || is_a_65th_child(table, p))?;
     // From here on the children of every plan are known; bytes 2 to 7 may still be bad.
     let plans: Vec<Plan> = (0..n).map(|p| read_plan(table, n, p)).collect();
-    // "7: body above 4, or an unused bit in bytes 3 to 6"
-    refuse_lowest_plan(n, 7, 0, |p| plans[p].body > UNORDERED || has_unused_bit_in_entry(&plans[p]))?;
+    // "7: body above 4, or an unused bit in bytes 3 to 6"; 02 (i): "7 begins at body 9"
+    refuse_lowest_plan(n, 7, 0, |p| plans[p].body > IF_THEN_ELSE || has_unused_bit_in_entry(&plans[p]))?;
     // "8: body against children; manual or overridable on an absent condition; root named; leaf
-    //  with m or flag bits 0, 1"
+    //  with m or flag bits 0, 1"; 02 (i): "8 also covers a wrong number of children or retry"
     refuse_lowest_plan(n, 8, 0, |p| {
         body_is_against_children(&plans[p])
+            || is_for_two_and_has_not_two_or_retries(&plans[p])
             || changes_an_absent_condition(&plans[p])
             || is_a_named_root(&plans[p])
             || is_a_leaf_that_waits_or_retries(&plans[p])
@@ -783,6 +877,11 @@ fn body_is_against_children(plan: &Plan) -> bool {
     (plan.body == LEAF) != plan.children.is_empty()
 }
 
+/// 02 (i): "each with exactly two children and no retry-aborted"
+fn is_for_two_and_has_not_two_or_retries(plan: &Plan) -> bool {
+    is_for_two(plan.body) && (plan.children.len() != 2 || plan.retries_aborted())
+}
+
 /// "manual or overridable on an absent condition"
 fn changes_an_absent_condition(plan: &Plan) -> bool {
     (plan.manual | plan.overridable) & !plan.present != 0
@@ -805,12 +904,24 @@ fn named_children(plans: &[Plan], p: usize) -> usize {
 /// "12: word with an unused bit, a wrong pick ..., or filter or setup satisfied but not satisfiable,
 /// present or absent"
 fn word_is_wrong(plan: &Plan, word: u32) -> bool {
-    has_unused_bit(word) || !may_be_picked(plan, pick_of(word)) || is_satisfied_but_not_satisfiable(word)
+    has_unused_bit(word)
+        || !may_be_picked(plan, pick_of(word))
+        || is_satisfied_but_not_satisfiable(word)
+        || bits_of_an_if_are_wrong(plan, word)
 }
 
 /// "(in a record: any pick bit)"
-fn word_in_record_is_wrong(word: u32) -> bool {
-    has_unused_bit(word) || pick_of(word) != 0 || is_satisfied_but_not_satisfiable(word)
+fn word_in_record_is_wrong(plan: &Plan, word: u32) -> bool {
+    word_is_wrong(plan, word) || pick_of(word) != 0
+}
+
+/// 02 (i): "12 covers bit 20 without 21, and either bit set off body 8"
+fn bits_of_an_if_are_wrong(plan: &Plan, word: u32) -> bool {
+    if plan.body == IF_THEN_ELSE {
+        if_is_satisfied(word) && !if_is_satisfiable(word)
+    } else {
+        if_is_satisfied(word) || if_is_satisfiable(word)
+    }
 }
 
 fn is_satisfied_but_not_satisfiable(word: u32) -> bool {
@@ -849,7 +960,7 @@ fn compare_steps(plans: &[Plan], record: &[u8], steps: usize) -> Check {
     for step in 1..=steps {
         let (words, shown) = part_of_step(record, n, step);
         let words = read_words(words);
-        refuse_lowest_plan(n, 12, step, |p| word_in_record_is_wrong(words[p]))?;
+        refuse_lowest_plan(n, 12, step, |p| word_in_record_is_wrong(&plans[p], words[p]))?;
         // "15: states that no picks explain"
         if let Some(p) = first_unexplained_plan(&Before { plans, states, words: &words }, shown) {
             return Err(answer(15, p, step));

@@ -17,7 +17,11 @@ const T1: [u8; 32] = [
 
 /// T1 with other bytes: pairs of a place and a byte.
 fn t1_with(changes: &[(usize, u8)]) -> Vec<u8> {
-    let mut table = T1.to_vec();
+    changed(&T1, changes)
+}
+
+fn changed(table: &[u8], changes: &[(usize, u8)]) -> Vec<u8> {
+    let mut table = table.to_vec();
     for &(at, byte) in changes {
         table[at] = byte;
     }
@@ -185,6 +189,173 @@ fn sub_trees_of_five_plans() {
 }
 
 // ------------------------------------------------------------------------------------------------
+// Request (i) of document 02: bodies 5 to 8
+// ------------------------------------------------------------------------------------------------
+
+/// A root of this body with m 0 and two leaves that are not named, each with complete present.
+fn two(body: u8) -> Vec<u8> {
+    let entry = |parent: u16, body: u8| [parent as u8, (parent >> 8) as u8, body, 0, 32, 0, 0, 0];
+    [*b"APT\x01\x00\x03\x00\x00", entry(65_535, body), entry(0, 0), entry(0, 0)].concat()
+}
+
+/// The same with wait-for-optional.
+fn two_waiting(body: u8) -> Vec<u8> {
+    changed(&two(body), &[(place(0, 3), 2)])
+}
+
+const IF_SATISFIED: u32 = 1 << 20;
+const IF_SATISFIABLE: u32 = 1 << 21;
+
+/// States in turn, each from the one before, under idle words.
+fn expect_steps(table: &[u8], states: &[[u8; 3]]) {
+    for pair in states.windows(2) {
+        expect_step(table, pair[0], [0, 0, 0], pair[1]);
+    }
+}
+
+#[test]
+fn on_abort() {
+    expect_step(&two(5), [4, 0, 0], [0, 0, 0], [4, 1, 0]);
+    for rests in [[4, 4, 0], [4, 6, 0], [4, 8, 0]] {
+        expect_step(&two(5), rests, [0, 0, 0], rests);
+    }
+    expect_step(&two(5), [4, 5, 0], [0, 0, 0], [4, 4, 0]);
+    expect_steps(&two(5), &[[4, 7, 0], [4, 7, 1], [4, 7, 2], [4, 7, 3], [4, 7, 4], [4, 7, 4]]);
+    expect_step(&two(5), [4, 7, 7], [0, 0, 0], [4, 7, 7]);
+}
+
+#[test]
+fn on_suspend() {
+    expect_steps(&two(6), &[[4, 5, 0], [4, 4, 1], [4, 4, 2], [4, 4, 3], [4, 4, 4]]);
+    for rests in [[4, 4, 0], [4, 6, 0], [4, 7, 0], [4, 8, 0]] {
+        expect_step(&two(6), rests, [0, 0, 0], rests);
+    }
+}
+
+#[test]
+fn on_abort_or_suspend() {
+    expect_step(&two(7), [4, 5, 0], [0, 0, 0], [4, 4, 1]);
+    expect_steps(&two(7), &[[4, 7, 0], [4, 7, 1], [4, 7, 2], [4, 7, 3], [4, 7, 4]]);
+    for rests in [[4, 4, 0], [4, 6, 0], [4, 8, 0]] {
+        expect_step(&two(7), rests, [0, 0, 0], rests);
+    }
+}
+
+#[test]
+fn if_then_else() {
+    let both = IF_SATISFIED | IF_SATISFIABLE;
+    expect_steps(&two(8), &[[4, 0, 0], [4, 0, 1], [4, 0, 2], [4, 0, 3], [4, 0, 4]]);
+    expect_step(&two(8), [4, 0, 0], [IF_SATISFIABLE, 0, 0], [4, 0, 0]);
+    expect_step(&two(8), [4, 0, 0], [both, 0, 0], [4, 1, 0]);
+    expect_step(&two(8), [4, 3, 0], [0, 0, 0], [4, 4, 0]);
+    // once a branch is taken the condition is not asked again
+    for state in [4, 6, 7, 8] {
+        expect_step(&two(8), [4, state, 0], [0, 0, 0], [4, state, 0]);
+        expect_step(&two(8), [4, 0, state], [both, 0, 0], [4, 0, state]);
+    }
+}
+
+/// No orders where the plan was not Activated or does not stay so.
+#[test]
+fn bodies_for_two_give_no_orders_unless_activated() {
+    for body in 5..=8 {
+        let suspend_too = changed(&two(body), &[(place(0, 4), 36)]);
+        let bits = if body == 8 { IF_SATISFIED | IF_SATISFIABLE } else { 0 };
+        expect_step(&suspend_too, [4, 3, 0], [bits | 4, 0, 0], [5, 3, 0]);
+        expect_step(&suspend_too, [5, 3, 0], [bits, 0, 0], [4, 3, 0]);
+        expect_step(&suspend_too, [5, 0, 0], [bits, 0, 0], [4, 0, 0]);
+    }
+}
+
+#[test]
+fn bodies_for_two_wait_for_optional() {
+    for body in 5..=8 {
+        let waits = two_waiting(body);
+        expect_step(&waits, [4, 6, 0], [32, 0, 0], [6, 6, 0]);
+        expect_step(&waits, [4, 8, 0], [32, 0, 0], [6, 8, 0]);
+        let after_an_abort = if body == 5 || body == 7 { [4, 7, 1] } else { [6, 7, 0] };
+        expect_step(&waits, [4, 7, 0], [32, 0, 0], after_an_abort);
+        // an Inactive child beside one that goes on does not count, nor two Inactive ones
+        expect_step(&waits, [4, 4, 0], [32, 0, 0], [4, 4, 0]);
+        let considers = if body == 8 { [4, 0, 1] } else { [4, 1, 0] };
+        expect_step(&waits, [4, 0, 0], [32, 0, 0], considers);
+    }
+    expect_step(&two_waiting(8), [4, 0, 6], [32, 0, 0], [6, 0, 6]);
+    expect_step(&two_waiting(8), [4, 0, 7], [32, 0, 0], [6, 0, 7]);
+    expect_step(&two_waiting(8), [4, 0, 4], [32, 0, 0], [4, 0, 4]);
+    expect_step(&two_waiting(7), [4, 7, 4], [32, 0, 0], [4, 7, 4]);
+    expect_step(&two_waiting(7), [4, 7, 6], [32, 0, 0], [6, 7, 6]);
+    // bodies 1 to 4 count as before
+    for body in 1..=4 {
+        expect_step(&two_waiting(body), [4, 6, 0], [32, 0, 0], [4, 6, 1]);
+    }
+}
+
+#[test]
+fn bodies_for_two_refused() {
+    for body in 0..=255 {
+        let above = if body > 8 { answer(7, 0, 0) } else { 0 };
+        let number = reference::read_table(&two(body)).err().unwrap_or(0);
+        assert_eq!(number, if body == 0 { answer(8, 0, 0) } else { above }, "body {body}");
+    }
+    for body in 5..=8 {
+        let mut three = two(body);
+        three.extend_from_within(place(2, 0)..);
+        three[5] = 4;
+        let mut one = two(body);
+        one.truncate(place(2, 0));
+        one[5] = 2;
+        let retries = changed(&two(body), &[(place(0, 3), 1)]);
+        for table in [three, one, retries] {
+            assert_eq!(reference::read_table(&table).err(), Some(answer(8, 0, 0)), "body {body}");
+        }
+    }
+    // 11, at the second child
+    for state in 1..=8 {
+        for first in 0..=8 {
+            let stands = [first == 7, (4..=7).contains(&first), (4..=7).contains(&first), first == 0];
+            for body in 5..=8 {
+                let mut states = [4, first, state];
+                let number = reference::step(&two(body), &mut states, &bytes([0, 0, 0]));
+                let expected = if stands[usize::from(body) - 5] { 0 } else { answer(11, 2, 0) };
+                assert_eq!(number, expected, "body {body}: 4, {first}, {state}");
+            }
+        }
+    }
+    // 12, in calls and in records
+    for body in 1..=8 {
+        for p in 0..3 {
+            for bits in 1..4 {
+                let mut words = [0, 0, 0];
+                words[p] = bits << 20;
+                let wrong = if body == 8 && p == 0 { bits == 1 } else { true };
+                let expected = |step| if wrong { answer(12, p, step) } else { answer(0, 0, step) };
+                let mut states = [0, 0, 0];
+                assert_eq!(reference::step(&two(body), &mut states, &bytes(words)), expected(0));
+                let mut record = record_of(&[[1, 0, 0]]);
+                record[8..20].copy_from_slice(&bytes(words));
+                assert_eq!(reference::check(&two(body), &record), expected(1));
+            }
+        }
+    }
+}
+
+#[test]
+fn records_with_a_second_child() {
+    let abort = changed(&two(5), &[(place(1, 4), 48)]);
+    let begun = [[1, 0, 0], [2, 0, 0], [3, 0, 0], [4, 0, 0], [4, 1, 0], [4, 2, 0], [4, 3, 0], [4, 4, 0]];
+    let with = |after: &[[u8; 3]]| {
+        let mut record = record_of(&[&begun[..], after].concat());
+        // step 9: abort on plan 1
+        record[8 + 15 * 8 + 4] = 16;
+        reference::check(&abort, &record)
+    };
+    assert_eq!(with(&[[4, 7, 0], [4, 7, 1], [4, 7, 2]]), answer(0, 0, 11));
+    assert_eq!(with(&[[4, 7, 1], [4, 7, 2]]), answer(15, 2, 9));
+    assert_eq!(with(&[[4, 7, 0], [4, 7, 0]]), answer(15, 2, 10));
+}
+
+// ------------------------------------------------------------------------------------------------
 // Random comparisons
 // ------------------------------------------------------------------------------------------------
 
@@ -199,8 +370,9 @@ fn small_case(dice: &mut Dice, most_plans: usize) -> (Vec<Plan>, Vec<u8>, Vec<u3
     (plans, states, words)
 }
 
-/// Two or three any-order plans that go on side by side below an unordered root, most of them with
-/// several Ready children: here the picks of different plans could get into each other's way.
+/// Two or three any-order plans that go on side by side below an unordered root, or two below one of
+/// the bodies under which two can, most of them with several Ready children: here the picks of
+/// different plans could get into each other's way.
 fn case_with_choices(dice: &mut Dice) -> (Vec<Plan>, Vec<u8>, Vec<u32>) {
     let mut table = Vec::new();
     let mut states = vec![reference::ACTIVATED];
@@ -211,13 +383,17 @@ fn case_with_choices(dice: &mut Dice) -> (Vec<Plan>, Vec<u8>, Vec<u32>) {
         table.extend([body, u8::from(retry), present, 0, 0, 0]);
         table.len() / 8 - 1
     };
-    let root = add_plan(reference::NO_PARENT, reference::UNORDERED, false);
-    for _ in 0..dice.between(2, 3) {
+    let for_two = dice.one_of(&[reference::ON_SUSPEND, reference::ON_ABORT_OR_SUSPEND]);
+    let body = if dice.percent(25) { for_two } else { reference::UNORDERED };
+    let root = add_plan(reference::NO_PARENT, body, false);
+    for rank in 0..if reference::is_for_two(body) { 2 } else { dice.between(2, 3) } {
         let chooser = add_plan(root, reference::ANY_ORDER, dice.percent(30));
-        states.push(dice.one_of(&[4, 4, 4, 4, 5, 3]));
+        // Beside a first child that has not begun, the second of a body for two is Inactive.
+        let may_begin = !reference::is_for_two(body) || rank == 0 || states[1] != reference::READY;
+        states.push(if may_begin { dice.one_of(&[4, 4, 4, 4, 5, 3]) } else { 0 });
         for _ in 0..dice.between(1, 4) {
             add_plan(chooser, reference::LEAF, false);
-            let may_begin = states[chooser] != reference::READY;
+            let may_begin = reference::in_execution(states[chooser]);
             states.push(if may_begin { dice.one_of(&[3, 3, 3, 3, 3, 2, 6, 7, 8]) } else { 0 });
         }
     }
@@ -289,8 +465,10 @@ fn plans_with_a_choice(before: &Before) -> usize {
 #[test]
 fn plan_by_plan_search_finds_what_brute_force_finds() {
     let mut dice = Dice::new(1);
-    // Cases that were explained and unexplained, by the number of plans that had a choice.
+    // Cases that were explained and unexplained, by the number of plans that had a choice, and those
+    // in which a plan of each body from 5 on was Activated.
     let (mut explained, mut unexplained) = ([0; 4], [0; 4]);
+    let mut for_two = [[0; 2]; 4];
     for _ in 0..50_000 {
         let (plans, states, words) =
             if dice.percent(50) { small_case(&mut dice, 9) } else { case_with_choices(&mut dice) };
@@ -303,9 +481,16 @@ fn plan_by_plan_search_finds_what_brute_force_finds() {
             None => explained[choices] += 1,
             Some(_) => unexplained[choices] += 1,
         }
+        for (plan, _) in plans.iter().zip(&states).filter(|(_, &state)| state == reference::ACTIVATED) {
+            if reference::is_for_two(plan.body) {
+                for_two[usize::from(plan.body - reference::ON_ABORT)][usize::from(found.is_some())] += 1;
+            }
+        }
     }
     println!("by plans with a choice: explained {explained:?}, unexplained {unexplained:?}");
+    println!("with a plan of body 5, 6, 7, 8, explained and unexplained: {for_two:?}");
     assert!(explained.into_iter().chain(unexplained).all(|count| count > 30));
+    assert!(for_two.into_iter().flatten().all(|count| count > 100));
 }
 
 #[test]
@@ -334,11 +519,20 @@ fn jumping_run_answers_as_the_plain_one() {
 #[test]
 fn states_that_may_be_handed_in_lead_to_such_states() {
     let mut dice = Dice::new(3);
+    // Plans of bodies 1, 3, 5 and 8 with a child in execution.
+    let mut with_one = [0; 9];
     for _ in 0..20_000 {
         let (plans, states, words) = small_case(&mut dice, 14);
         let new = reference::new_states(&Before { plans: &plans, states: &states, words: &words });
         assert!((0..plans.len()).all(|p| !reference::breaks_a_rule(&plans, &new, p)));
+        for plan in plans.iter().filter(|plan| matches!(plan.body, 1 | 3 | 5 | 8)) {
+            let running = plan.children.iter().filter(|&&child| reference::in_execution(new[child])).count();
+            assert!(running <= 1, "body {}: {running} in execution", plan.body);
+            with_one[usize::from(plan.body)] += running;
+        }
     }
+    println!("plans with a child in execution, by body: {with_one:?}");
+    assert!([1, 3, 5, 8].into_iter().all(|body| with_one[body] > 100));
 }
 
 /// A plan and its descendants, found from above: in preorder.

@@ -11,6 +11,8 @@ mod cases;
 mod program;
 #[allow(dead_code)]
 mod reference;
+#[allow(dead_code)]
+mod turns;
 
 use cases::{hex, Dice};
 use program::{printed, refusal_line, Options, MOST_BYTES};
@@ -45,11 +47,13 @@ const EMPTY_BY_TABLE: usize = 13;
 const EMPTY_BY_LENGTH: usize = 14;
 const EMPTY_BY_PLAN: usize = 15;
 
-/// A line for the program, the line that it must print, each with its end, and the answer's place in `KINDS`.
+/// A line for the program, the line that it must print, each with its end, the answer's place in `KINDS`, and whether a table is refused
+/// for one of the bodies 5 to 8.
 struct Question {
     line: String,
     answer: String,
     kind: usize,
+    for_body: Option<String>,
 }
 
 fn main() -> ExitCode {
@@ -65,24 +69,27 @@ fn main() -> ExitCode {
 
 fn run(options: &Options) -> Result<(), String> {
     let questions = questions(options);
-    let mut counts = [0; KINDS.len()];
+    let (mut counts, mut for_bodies) = ([0; KINDS.len()], turns::Lines::default());
     let (mut asked, mut runs) = (0, 0);
     while asked < questions.len() {
         let batch = next_batch(&questions[asked..]);
         compare(options, asked, batch)?;
         batch.iter().for_each(|question| counts[question.kind] += 1);
+        batch.iter().filter_map(|question| question.for_body.clone()).for_each(|why| for_bodies.count(why));
         asked += batch.len();
         runs += 1;
     }
     println!("seed {}: {asked} questions in {runs} runs, no difference", options.seed);
     print(&counts);
+    let wanted = turns::wanted_of_tables();
+    for_bodies.print("  refusals by bodies 5 to 8", &wanted);
     if asked < REACH_FROM {
         println!("what must be reached is asked for from {REACH_FROM} questions on");
         return Ok(());
     }
     match counts.iter().position(|&count| count == 0) {
         Some(kind) => Err(format!("NOT REACHED: {} {}", if kind < OF_A_ROOT { "table" } else { "sub tree" }, KINDS[kind])),
-        None => Ok(()),
+        None => for_bodies.are_all(&wanted),
     }
 }
 
@@ -210,7 +217,8 @@ fn check_of(table: &[u8]) -> (Question, bool) {
         Ok(plans) => (format!("accepted {}\n", plans.len()), 0),
         Err(answer) => (refusal_line(answer), (answer & 0xFFFF) as usize),
     };
-    (Question { line: format!("table {}\n", hex(table)), answer, kind }, kind == 0)
+    let for_body = turns::why_refused(table);
+    (Question { line: format!("table {}\n", hex(table)), answer, kind, for_body }, kind == 0)
 }
 
 fn sub_tree_of(table: &[u8], states: &[u8], plan: usize) -> Question {
@@ -223,5 +231,6 @@ fn sub_tree_of(table: &[u8], states: &[u8], plan: usize) -> Question {
         _ if plan == 0 => OF_A_ROOT,
         _ => OF_AN_INNER_PLAN,
     };
-    Question { line: format!("subtree {} {} {plan}\n", hex(table), hex(states)), answer: format!("{}\n", hex(part)), kind }
+    let line = format!("subtree {} {} {plan}\n", hex(table), hex(states));
+    Question { line, answer: format!("{}\n", hex(part)), kind, for_body: None }
 }

@@ -3,7 +3,7 @@
  *
  * Three functions over byte buffers that the caller owns: one step, a run to rest, and the checker of treatment records. They are
  * written in Rattle and proved (crate `tablet`). Link with libasbru.a, which `make` writes for x86-64. docs/RULES.md has the rules in
- * words, in numbered paragraphs; asbru_text.h, which is not proved, has a text for each state and each number.
+ * words, in numbered paragraphs; asbru_text.h, which is not proved, has a text for each state, body and number.
  *
  *
  * BUFFERS
@@ -21,7 +21,8 @@
  *   then 8 bytes for each plan, in preorder (a plan, then all plans under its first child, then those under its second, ..):
  *   0-1  the parent's number: of plan 0 ASBRU_NO_PARENT, of any other plan the plan just before it or an ancestor of that one. A plan
  *        has at most 64 children; a child's rank is its place among them, from 0
- *   2    the body, one of `enum asbru_body`. Leaf exactly when the plan has no children
+ *   2    the body, one of `enum asbru_body`. Leaf exactly when the plan has no children. A body from ASBRU_ON_ABORT on has exactly two
+ *        children, the first and the second, and no retry-aborted
  *   3    flags, of `enum asbru_flag`
  *   4    conditions present: the bits ASBRU_BIT of `enum asbru_condition`
  *   5    conditions that are manual, with the same bits; only of present ones
@@ -36,6 +37,8 @@
  *   - At most one child of an any-order plan is in execution.
  *   - Of a sequential plan, every child after the first not done is Inactive. Done: Completed, Rejected, or Aborted without
  *     retry-aborted.
+ *   - The second child of an on-abort plan is Inactive unless the first is Aborted; that of an on-suspend or on-abort-or-suspend plan
+ *     unless the first is in execution, Completed or Aborted; that of an if-then-else plan unless the first is Inactive.
  *
  * Words: 4n bytes, a 32-bit word for each plan, which says what is so of that plan in one step. It is put together by `|` from the
  *   ASBRU_ macros below; asbru_put_word puts it at its place. All other bits are 0.
@@ -66,6 +69,17 @@
  *   stays so, none of its children was in execution and, with retry-aborted, none was Aborted. If the child of that rank was Ready, it
  *   is activated; if it was not, the pick counts for nothing and the Ready child of lowest rank is activated. So a pick of 0, which is
  *   that of an empty word, is a pick too, and a child cannot be held back by picking one that is not Ready.
+ * - The second child of an on-abort, on-suspend or on-abort-or-suspend plan is considered in a step before which the first was Aborted,
+ *   Suspended, or one of the two; as every order, only where the plan was Activated and stays so. So a suspension that is over after one
+ *   step is enough, and the second then goes on beside the first; but one that the first shares with its plan is none if both are
+ *   reactivated in one step. Both children are activated as soon as they are Ready.
+ * - An if-then-else plan that was Activated and stays so reads ASBRU_IF_SATISFIED and ASBRU_IF_SATISFIABLE in its own word while both its
+ *   children are Inactive: with both bits the first is considered, with none the second, and with ASBRU_IF_SATISFIABLE alone neither yet.
+ *   So where nothing is known of the condition, the word of such a plan is not 0 but ASBRU_IF_SATISFIABLE. Once one child is considered
+ *   the bits move nothing (number 12 reads them always), and the other child stays Inactive unless a plan above is retried.
+ * - With wait-for-optional a plan completes only when all its children are ended. Of the bodies from ASBRU_ON_ABORT on an Inactive child
+ *   counts as ended when the other one is; but the second of an on-abort or on-abort-or-suspend plan does not beside an Aborted first, for
+ *   its turn has come.
  * - A plan moves at most once in a step, and a child feels its parent's new state in the same step: where a plan ends, its children in
  *   selection are Rejected and those in execution Aborted with it. From all plans Inactive the root is Activated after four steps and
  *   its first children after eight, at the earliest.
@@ -84,7 +98,7 @@
  * `states` is all that is written, by asbru_step and asbru_rest, and only where the answer's number is ASBRU_DONE: after a refusal it is
  * as it was. Nothing is allocated, nothing is kept from one call to the next, and nothing global is read or written, so calls from
  * several threads are independent as long as no thread writes a buffer that another call uses: tables may be shared, states may not.
- * Every call returns. A call takes about 22 KiB of stack, whatever it is handed. Its time grows with n, of asbru_rest with n for each
+ * Every call returns. A call takes about 23 KiB of stack, whatever it is handed. Its time grows with n, of asbru_rest with n for each
  * step taken (at most 65535), of asbru_check with the record's length.
  */
 #ifndef ASBRU_H
@@ -98,7 +112,7 @@ extern "C" {
 #endif
 
 /* Raised by one whenever a function, a format, a number or a rule changes: CHANGELOG.md says how. */
-#define ASBRU_VERSION 1
+#define ASBRU_VERSION 2
 
 /* Limits, and the sizes of what buffers hold. */
 enum asbru_size {
@@ -118,10 +132,15 @@ enum asbru_body {
     ASBRU_SEQUENTIAL,
     ASBRU_PARALLEL,
     ASBRU_ANY_ORDER,
-    ASBRU_UNORDERED
+    ASBRU_UNORDERED,
+    /* these have exactly two children: the second is for when the first is Aborted, Suspended, or one of the two */
+    ASBRU_ON_ABORT,
+    ASBRU_ON_SUSPEND,
+    ASBRU_ON_ABORT_OR_SUSPEND,
+    ASBRU_IF_THEN_ELSE /* the first if a condition is satisfied, the second if it no longer can be */
 };
 
-/* Bits of byte 3. A leaf has neither of the first two, plan 0 not the third. */
+/* Bits of byte 3. A leaf has neither of the first two, a body from ASBRU_ON_ABORT on not the first, plan 0 not the third. */
 enum asbru_flag {
     ASBRU_RETRY_ABORTED = 1,
     ASBRU_WAIT_FOR_OPTIONAL = 2,
@@ -162,6 +181,10 @@ enum asbru_state {
 #define ASBRU_TRIGGER(c) ((uint32_t)1 << (8 + (c)))
 /* Bits 14-19: the override of an overridable condition. */
 #define ASBRU_OVERRIDE(c) ((uint32_t)1 << (14 + (c)))
+/* Bits 20, 21: the condition of an if-then-else plan is satisfied, can still be satisfied; the second is set wherever the first is, and
+   neither is in the word of any other plan. */
+#define ASBRU_IF_SATISFIED ((uint32_t)1 << 20)
+#define ASBRU_IF_SATISFIABLE ((uint32_t)1 << 21)
 /* Bits 24-29: the rank of the child to be activated, of an any-order plan; below its number of children; 0 of any other plan. */
 #define ASBRU_PICK(rank) ((uint32_t)(rank) << 24)
 /* All bits of a pick: a record has none of them. */
@@ -185,19 +208,21 @@ enum asbru_answer {
     ASBRU_REFUSED_TABLE_LENGTH = 5,
     /* [plan] the parent rule is broken, or a plan has a 65th child (which is then the plan named) */
     ASBRU_REFUSED_PARENT = 6,
-    /* [plan] the body is above 4, or an unused bit is set in bytes 3 to 6 */
+    /* [plan] the body is above 8, or an unused bit is set in bytes 3 to 6 */
     ASBRU_REFUSED_UNDEFINED = 7,
-    /* [plan] the body does not fit the children; an absent condition is manual or overridable; plan 0 is named; a leaf has a wait
-       number, retry-aborted or wait-for-optional */
+    /* [plan] the body does not fit the children; a body from ASBRU_ON_ABORT on has another number of children than two, or retry-aborted;
+       an absent condition is manual or overridable; plan 0 is named; a leaf has a wait number, retry-aborted or wait-for-optional */
     ASBRU_REFUSED_UNFIT = 8,
     /* [plan] the wait number is above the number of named children */
     ASBRU_REFUSED_WAIT = 9,
     /* the states are not n bytes or the words not 4n; never of asbru_check */
     ASBRU_REFUSED_LENGTHS = 10,
-    /* [plan] a state is above 8 or breaks a rule, together with the states of plans before it; never of asbru_check */
+    /* [plan] a state is above 8 or breaks a rule, together with the states of plans before it (so of two children the second); never of
+       asbru_check */
     ASBRU_REFUSED_STATE = 11,
-    /* [plan; of asbru_check the step too] a word has an unused bit, a wrong pick (in a record: any pick bit), or filter or setup satisfied
-       but not satisfiable, whether or not the plan has the condition and whether or not it is overridable */
+    /* [plan; of asbru_check the step too] a word has an unused bit, a wrong pick (in a record: any pick bit), ASBRU_IF_SATISFIED without
+       ASBRU_IF_SATISFIABLE, one of these two on a plan that is no if-then-else, or filter or setup satisfied but not satisfiable, whether
+       or not the plan has the condition and whether or not it is overridable */
     ASBRU_REFUSED_WORD = 12,
     /* the record's header is short or wrong; only of asbru_check */
     ASBRU_REFUSED_RECORD_HEADER = 13,

@@ -1,6 +1,6 @@
 /*
- * asbru_text.h: a text for each state, body, condition and answer's number of asbru.h, for what a host shows to people. NOT PROVED: these
- * are words and nothing more. docs/RULES.md says more of each number, in paragraph 10.number.
+ * asbru_text.h: a text for each state, body and answer's number of asbru.h, for what a host shows to people. NOT PROVED: these are words
+ * and nothing more. docs/RULES.md says more of each number, in paragraph 10.number.
  */
 #ifndef ASBRU_TEXT_H
 #define ASBRU_TEXT_H
@@ -23,6 +23,22 @@ static inline const char *asbru_state_text(unsigned state) {
     }
 }
 
+/* The name of a body; of a byte that is no body, text that says so. */
+static inline const char *asbru_body_text(unsigned body) {
+    switch (body) {
+    case ASBRU_LEAF: return "leaf";
+    case ASBRU_SEQUENTIAL: return "sequential";
+    case ASBRU_PARALLEL: return "parallel";
+    case ASBRU_ANY_ORDER: return "any-order";
+    case ASBRU_UNORDERED: return "unordered";
+    case ASBRU_ON_ABORT: return "on abort";
+    case ASBRU_ON_SUSPEND: return "on suspend";
+    case ASBRU_ON_ABORT_OR_SUSPEND: return "on abort or suspend";
+    case ASBRU_IF_THEN_ELSE: return "if-then-else";
+    default: return "none that has a meaning";
+    }
+}
+
 /* What an answer's number means, in half a sentence that can follow the plan and step that the answer names. */
 static inline const char *asbru_number_text(unsigned number) {
     switch (number) {
@@ -33,15 +49,15 @@ static inline const char *asbru_number_text(unsigned number) {
     case ASBRU_REFUSED_TABLE_COUNT: return "the table does not count 1 to 256 plans, or byte 7 of its header is not 0";
     case ASBRU_REFUSED_TABLE_LENGTH: return "the table's length does not fit the number of plans that it counts";
     case ASBRU_REFUSED_PARENT: return "its parent is neither the plan before it nor above that one, or it is a 65th child";
-    case ASBRU_REFUSED_UNDEFINED: return "its body is above 4, or its entry has a bit without a meaning";
+    case ASBRU_REFUSED_UNDEFINED: return "its body is above 8, or its entry has a bit without a meaning";
     case ASBRU_REFUSED_UNFIT:
-        return "its body does not fit its children, an absent condition is manual or overridable, it is the root and named, or it is a "
-               "leaf that waits or retries";
+        return "its body does not fit its children or its retry-aborted, an absent condition is manual or overridable, it is the root "
+               "and named, or it is a leaf that waits or retries";
     case ASBRU_REFUSED_WAIT: return "its wait number is above the number of its named children";
     case ASBRU_REFUSED_LENGTHS: return "the states or the words have not the length that the number of plans asks for";
     case ASBRU_REFUSED_STATE: return "its state cannot stand beside those of the plans before it";
     case ASBRU_REFUSED_WORD:
-        return "its word has a bit without a meaning, a pick that is not allowed, or a condition satisfied that cannot be";
+        return "its word has a bit that has no meaning there, a pick that is not allowed, or a condition satisfied that cannot be";
     case ASBRU_REFUSED_RECORD_HEADER: return "the record's header is short, or not of this table";
     case ASBRU_REFUSED_RECORD_LENGTH: return "the record does not end with a whole step, or has over 65535 steps";
     case ASBRU_REFUSED_UNEXPLAINED: return "no picks lead to the state shown";

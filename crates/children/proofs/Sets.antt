@@ -14,7 +14,7 @@ use lib.Seq.{getD-append-seam}
 use borrow.Author.Tests.{eq-eqb, ne-eqb}
 use Rattle.rules.specs.Bytes.{isSet}
 use Rattle.rules.specs.Lists.{some, count, first, noPlan}
-use Rattle.rules.specs.Table.{planCount, parent, isChild, childrenBefore, children, rank}
+use Rattle.rules.specs.Table.{planCount, parent, isChild, childrenBefore, children, firstChild, secondChild, rank}
 use Rattle.rules.proofs.Digits.{bit}
 use Rattle.children.specs.Sets.{bits, setBefore, setOf}
 use Rattle.children.proofs.Bits.{
@@ -88,6 +88,15 @@ passing-false f [] k d e = cond-same (f d) d
 passing-false f (c ∷ l) zero d e = rw e
 passing-false f (c ∷ l) (suc k) d e = passing-false f l k d e
 
+-- two of them
+two-bits :
+    (f : ℕ → Bool) (l : List ℕ) → length l ≡ 2 → bits (map f l) ≡ bit (f (getD l 0 noPlan)) + 2 * bit (f (getD l 1 noPlan))
+unfolding bits
+two-bits f [] e = absurd (omega arith)
+two-bits f (c ∷ []) e = absurd (omega arith)
+two-bits f (c ∷ d ∷ []) e = omega arith
+two-bits f (c ∷ d ∷ b ∷ l) e = absurd (omega arith)
+
 -- the words of plan q's children
 module _ (t : List ℕ) (q : ℕ) where
   set-is : (f : ℕ → Bool) → setOf t q f ≡ bits (map f (children t q))
@@ -108,6 +117,10 @@ module _ (t : List ℕ) (q : ℕ) where
 
   pub set-none : (f : ℕ → Bool) → eqb (setOf t q f) 0 ≡ not (some f (children t q))
   set-none f = rw (set-is f) (none-bits f (children t q))
+
+  -- of two children
+  pub set-two : (f : ℕ → Bool) → length (children t q) ≡ 2 → setOf t q f ≡ bit (f (firstChild t q)) + 2 * bit (f (secondChild t q))
+  set-two f two = rw (set-is f) (two-bits f (children t q) two)
 
   -- by a digit: the child of a rank where it passes, else another
   set-digit : (f : ℕ → Bool) (r : ℕ) → isSet r (setOf t q f) ≡ getD (map f (children t q)) r false

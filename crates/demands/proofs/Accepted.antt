@@ -15,6 +15,7 @@ use Rattle.rules.specs.declared.Verdict.the-variants as verdict
 use Rattle.rules.proofs.Outcomes.{first-done}
 use Rattle.demands.specs.PassesStates.{PassesStates}
 use Rattle.demands.proofs.Step.{length-step}
+use Rattle.demands.proofs.PassedWords.{record-words}
 use Rattle.demands.proofs.Valid.{start-passes, step-passes}
 
 pub table-done : (t r : List ℕ) → recordCheck t r ≡ Done → tableCheck t ≡ Done
@@ -37,9 +38,11 @@ pub before-passes :
     (t r : List ℕ) → tableCheck t ≡ Done → (i : ℕ) → ((j : ℕ) → j < i → StepPasses t r j) → PassesStates t (statesBefore t r i)
 before-passes t r done zero before = start-passes t done
 before-passes t r done (suc i) before =
-    let e = before i (omega arith) .states in
+    let passed = before i (omega arith) in
+    let e = passed .states in
     rw (whole-step t r i e)
-    (step-passes t (statesBefore t r i) (wordsOf t r i) (e .pick) done (before-passes t r done i (λ j l. before j (omega arith))))
+    (step-passes t (statesBefore t r i) (wordsOf t r i) (e .pick) done (before-passes t r done i (λ j l. before j (omega arith)))
+    (record-words t r i (passed .words)))
 
 pub record AcceptedStep (t r : List ℕ) (i : ℕ) : Type 0 where
   pub pick : ℕ → ℕ

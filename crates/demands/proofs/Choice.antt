@@ -8,16 +8,16 @@ use mathlib.Core.Path.{_≡_, refl, sym, ap, _∙_}
 use mathlib.Core.Logic.{_⊎_, inl, inr, ⊎-elim}
 use mathlib.Core.List.{List, [], _∷_, List·Memᴰ, List·Memᴰ·head, List·Memᴰ·tail}
 use lib.ListN.{getD, length}
-use lib.Dec.{T, T-not, eqb, eqb→eq, eqb-refl, leb, leb→le, nleb→lt, lt→ltb}
+use lib.Dec.{T, T-not, eqb, eqb→eq, eqb-refl, leb, leb→le, nleb→lt, ltb, lt→ltb}
 use borrow.Author.Tests.{ne-eqb}
 use Rattle.rules.specs.Lists.{some, noPlan, first}
 use Rattle.rules.specs.States.{stateAt, is}
-use Rattle.rules.specs.Table.{planCount, entry, bodyOf, isAnyOrder, children, rank}
+use Rattle.rules.specs.Table.{planCount, entry, bodyOf, isBody, children, rank}
 use Rattle.rules.specs.Words.{pickAllowed}
 use Rattle.rules.specs.Step.{chosen}
-use Rattle.rules.specs.declared.Body.{Body}
-use Rattle.rules.specs.declared.Body.the-variants.{Leaf, Sequential, Parallel, AnyOrder, Unordered}
+use Rattle.rules.specs.declared.Body.the-variants.{AnyOrder}
 use Rattle.rules.specs.declared.PlanState.the-variants.{Ready, Activated}
+use Rattle.rules.proofs.Bodies.{body-is}
 use Rattle.demands.specs.Witness.{last, firstMarked, activatedChild, witness}
 use Rattle.demands.proofs.Tests.{both, left, right, decide, is-true, cond-by}
 use Rattle.demands.proofs.Lists.{Found, found-some, first-found, first-or-none, last-found, Sorted, first-le, last-ge}
@@ -169,7 +169,7 @@ module _ (t s shown : List ℕ) (q : ℕ) where
   -- it is below 64, as the plans' ranks are
   pub witness-narrow : ((c : ℕ) → c < planCount t → rank t c < 64) → witness t s shown q < 64
   unfolding witness
-  witness-narrow narrow = go (isAnyOrder (bodyOf (entry t q)))
+  witness-narrow narrow = go (isBody AnyOrder (bodyOf (entry t q)))
     where
       go : (b : Bool) → cond (b && ready) (rank t (activatedChild t s shown q)) 0 < 64
       go false = omega arith
@@ -181,16 +181,14 @@ module _ (t s shown : List ℕ) (q : ℕ) where
       (bodyOf (entry t q) ≡ AnyOrder → 0 < length (children t q))
       → T (pickAllowed (bodyOf (entry t q)) (length (children t q)) (witness t s shown q))
   unfolding witness
-  witness-allowed h = go (bodyOf (entry t q)) h
+  witness-allowed h = go (isBody AnyOrder (bodyOf (entry t q))) (λ b. h (body-is AnyOrder (bodyOf (entry t q)) b))
     where
-      go :
-          (body : Body) → (body ≡ AnyOrder → 0 < length (children t q))
-          → T (pickAllowed body (length (children t q)) (cond (isAnyOrder body && ready) (rank t (activatedChild t s shown q)) 0))
-      go Leaf k = tt
-      go Sequential k = tt
-      go Parallel k = tt
-      go AnyOrder k =
-          lt→ltb (cond ready (rank t (activatedChild t s shown q)) 0) (length (children t q))
+      pick : Bool → ℕ
+      pick b = cond (b && ready) (rank t (activatedChild t s shown q)) 0
+
+      go : (b : Bool) → (T b → 0 < length (children t q)) → T (cond b (ltb (pick b) (length (children t q))) (eqb (pick b) 0))
+      go true k =
+          lt→ltb (pick true) (length (children t q))
           (cond-by (λ x. x < length (children t q)) ready
-          (λ r. rank-small t q _ (member-child t q _ (activated-found r .member))) (λ r. k refl))
-      go Unordered k = tt
+          (λ r. rank-small t q _ (member-child t q _ (activated-found r .member))) (λ r. k tt))
+      go false k = tt

@@ -14,6 +14,8 @@ pub mod SameStep
 pub mod Witness
 pub mod PlanByPlan
 pub mod PassedStates
+pub mod PassedWords
+pub mod TwoChildren
 pub mod Went
 pub mod Valid
 pub mod Accepted

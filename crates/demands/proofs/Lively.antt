@@ -15,11 +15,13 @@ use Rattle.rules.specs.Words.{holds, satisfiable}
 use Rattle.rules.specs.Step.{
   move,
   tooManyLost,
+  allEnded,
   childrenComplete,
   firstNotDone,
   gateOpen,
   mayActivate,
   chosen,
+  due,
   orders,
   stepFirst,
   stepBy,
@@ -140,8 +142,8 @@ pub record Lively : Type 0 where
 
 pub lively : Lively
 unfolding
-    leastFrom stateAt childrenBefore children rank isOrIsAbove holds satisfiable move tooManyLost childrenComplete firstNotDone gateOpen
-    mayActivate chosen orders stepFirst stepBy stepUnder undefinedEntry unfitEntry unrooted badParent undefinedByte unfit badWait _andThen_
+    leastFrom stateAt childrenBefore children rank isOrIsAbove holds satisfiable move tooManyLost allEnded childrenComplete firstNotDone
+    gateOpen mayActivate chosen due orders stepFirst stepBy stepUnder undefinedEntry unfitEntry unrooted badParent undefinedByte unfit badWait _andThen_
     refuseIf refuseAt headerCheck plansCheck tableCheck badRecordWord recordCheck wordsCheck activatedChild witness
 lively =
     record {

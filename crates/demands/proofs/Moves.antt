@@ -8,8 +8,21 @@ use mathlib.Core.List.{[], _∷_}
 use lib.Dec.{T, eqb, eqb-refl}
 use Rattle.rules.specs.States.{code, oneOf, is, inSelection, inExecution, ended}
 use Rattle.rules.specs.Words.{holds, satisfiable}
-use Rattle.rules.specs.Step.{move, done}
-use Rattle.rules.specs.HandedIn.{suits}
+use Rattle.rules.specs.Table.{isBody}
+use Rattle.rules.specs.Step.{move}
+use Rattle.rules.specs.HandedIn.{suits, letsLater}
+use Rattle.rules.specs.declared.Body.{Body}
+use Rattle.rules.specs.declared.Body.the-variants.{
+  Leaf,
+  Sequential,
+  Parallel,
+  AnyOrder,
+  Unordered,
+  OnAbort,
+  OnSuspend,
+  OnAbortOrSuspend,
+  IfThenElse,
+}
 use Rattle.rules.specs.declared.PlanEntry.{PlanEntry}
 use Rattle.rules.specs.declared.Orders.{Orders}
 use Rattle.rules.specs.declared.Condition.the-variants.{Filter, Setup, Abort, Suspend, Reactivate, Complete}
@@ -148,6 +161,29 @@ of-everyMove f h parent o old new =
     let h₃ = of-every (λ x. every (λ y. g parent o x y)) h₂ old in
     given (goes parent o old new) (f parent o old new) (of-every (λ y. g parent o old y) h₃ new)
 
+-- A child in this state keeps the later ones Inactive, or if-then-else considers it now; and a move to a state that keeps them comes from
+-- such a one, unless the parent has not begun, where a retry lets no less than the abort did.
+abbrev pub keptOrTaken : Body → Bool → Orders → PlanState → Bool
+keptOrTaken body again o old = not (letsLater body again old) || isBody IfThenElse body && (is Inactive old && o .considers)
+
+abbrev keepsOn : Body → Bool → PlanState → Orders → PlanState → PlanState → Bool
+keepsOn body again parent o old new =
+    (o .retries ⇒ letsLater body again Aborted ⇒ letsLater body again Considered) ⇒ not (letsLater body again new)
+    ⇒ dormant parent || keptOrTaken body again o old
+
+keeps-on : (body : Body) (again : Bool) → T (everyMove (keepsOn body again))
+unfolding everyMove
+keeps-on Leaf again = tt
+keeps-on Sequential true = tt
+keeps-on Sequential false = tt
+keeps-on Parallel again = tt
+keeps-on AnyOrder again = tt
+keeps-on Unordered again = tt
+keeps-on OnAbort again = tt
+keeps-on OnSuspend again = tt
+keeps-on OnAbortOrSuspend again = tt
+keeps-on IfThenElse again = tt
+
 -- What the theorems use of a move.
 module _ {parent : PlanState} {o : Orders} {old new : PlanState} (moved : Moved parent o old new) where
   fact : (f : PlanState → Orders → PlanState → PlanState → Bool) → T (everyMove f) → T (f parent o old new)
@@ -204,16 +240,13 @@ module _ {parent : PlanState} {o : Orders} {old new : PlanState} (moved : Moved 
   keeps-ending =
       given₂ (ended old) (not (dormant new)) (is old new) (fact (λ q i x y. ended x ⇒ not (dormant y) ⇒ is x y) tt)
 
-  -- what a sequential plan is not done with it was not done with before, unless it has not begun itself
-  pub was-undone :
-      (again : Bool) → (T (o .retries) → T again) → T (not (done again new))
-      → T (dormant parent) ⊎ T (not (done again old))
-  unfolding everyMove
-  was-undone again f h =
-      either (dormant parent) (not (done again old))
-      (given₂ (o .retries ⇒ again) (not (done again new)) (dormant parent || not (done again old))
-      (all-again again) (arrow (o .retries) again f) h)
-    where
-      all-again : (b : Bool) → T ((o .retries ⇒ b) ⇒ not (done b new) ⇒ dormant parent || not (done b old))
-      all-again true = fact (λ q i x y. (i .retries ⇒ true) ⇒ not (done true y) ⇒ dormant q || not (done true x)) tt
-      all-again false = fact (λ q i x y. (i .retries ⇒ false) ⇒ not (done false y) ⇒ dormant q || not (done false x)) tt
+  -- what keeps the later children Inactive did so before, or is considered by if-then-else; unless the parent has not begun itself
+  pub was-kept :
+      (body : Body) (again : Bool) → (T (o .retries) → T (letsLater body again Aborted) → T (letsLater body again Considered))
+      → T (not (letsLater body again new)) → T (dormant parent) ⊎ T (keptOrTaken body again o old)
+  was-kept body again f h =
+      either (dormant parent) (keptOrTaken body again o old)
+      (given₂ (o .retries ⇒ letsLater body again Aborted ⇒ letsLater body again Considered) (not (letsLater body again new))
+      (dormant parent || keptOrTaken body again o old) (fact (keepsOn body again) (keeps-on body again))
+      (arrow (o .retries) (letsLater body again Aborted ⇒ letsLater body again Considered)
+      (λ r. arrow (letsLater body again Aborted) (letsLater body again Considered) (f r))) h)

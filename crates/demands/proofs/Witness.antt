@@ -70,7 +70,7 @@ module _ (t s w shown : List ℕ) (tree : Tree t) (k : ℕ) (within : k ≤ plan
 pub has-children : (t : List ℕ) → Passes t → (q : ℕ) → q < planCount t → bodyOf (entry t q) ≡ AnyOrder → 0 < length (children t q)
 unfolding unfit
 has-children t passed q l b =
-    let fit = or-left _ _ (or-left _ _ (or-left _ _ (rw b at (passed .fits q l)))) in
+    let fit = or-left _ _ (or-left _ _ (or-left _ _ (or-left _ _ (rw b at (passed .fits q l))))) in
     go (length (children t q)) fit
   where
     go : (n : ℕ) → not (Bool·beq false (eqb n 0)) ≡ false → 0 < n

@@ -4,7 +4,8 @@ use mathlib.Core.Bool.{Bool, cond, _&&_}
 use mathlib.Core.List.{List, [], _∷_}
 use Rattle.rules.specs.Lists.{some, noPlan, first}
 use Rattle.rules.specs.States.{stateAt, is}
-use Rattle.rules.specs.Table.{entry, bodyOf, isAnyOrder, children, rank}
+use Rattle.rules.specs.Table.{entry, bodyOf, isBody, children, rank}
+use Rattle.rules.specs.declared.Body.the-variants.{AnyOrder}
 use Rattle.rules.specs.declared.PlanState.the-variants.{Ready, Activated}
 
 -- the last number of a list that passes a test, or `noPlan`
@@ -28,4 +29,4 @@ module _ (t s shown : List ℕ) where
   unfoldable pub witness : ℕ → ℕ
   unfolding activatedChild
   witness q =
-      cond (isAnyOrder (bodyOf (entry t q)) && some (λ c. is Ready (stateAt s c)) (children t q)) (rank t (activatedChild q)) 0
+      cond (isBody AnyOrder (bodyOf (entry t q)) && some (λ c. is Ready (stateAt s c)) (children t q)) (rank t (activatedChild q)) 0

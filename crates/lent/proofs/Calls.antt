@@ -39,6 +39,8 @@ use Rattle.table.specs.Lowest.{Lowest}
 use Rattle.table.specs.Facts.{Facts}
 use Rattle.table.proofs.Reading.{found-at, found-none, prepared}
 use Rattle.demands.specs.PassesStates.{PassesStates}
+use Rattle.demands.specs.BranchesAgree.{BranchesAgree}
+use Rattle.demands.proofs.PassedWords.{call-words}
 use Rattle.lent.specs.Calls.{Counted, Called, MayMove}
 
 -- a table that passes: its n plans have earlier parents
@@ -107,6 +109,11 @@ module _ (t s w : List ℕ) (done : callCheck t s w ≡ Done) where
         long = lengths .0;
         unbroken = nowhere (badState t s) (planCount t) (at-done _ _ (first-done _ _ (then-done _ _ lent-passes)));
       }
+
+  -- and of its words
+  pub words-in : BranchesAgree t w
+  unfolding lentCheck
+  words-in = call-words t w (nowhere (badWord t w) (planCount t) (at-done _ _ (then-done _ _ (then-done _ _ lent-passes))))
 
 -- a call's checks are its table's, and then those of what is lent with it
 module _ (t s w ranks counts names : List ℕ) where

@@ -4,22 +4,31 @@ use Prim.Native.Nat.{ℕ, zero, suc, _+_, _≤_, _<_}
 use native.Mathlib.Omega.{arith}
 use native.Mathlib.Numerals.{add-one}
 use native.Mathlib.Decide.{ℕ-discrete, le-ind}
-use mathlib.Core.Path.{_≡_, refl, sym, ap, _∙_}
+use mathlib.Core.Path.{_≡_, refl, sym, ap, ap₂, _∙_}
 use mathlib.Core.Bool.{Bool, true, false, not, _&&_, _||_, and-false, or-false, or-true}
-use mathlib.Core.List.{List}
+use mathlib.Core.List.{List, [], _∷_}
 use lib.Dec.{eqb, ltb}
 use lib.ListN.{length, set, replicate, length-set, length-replicate, getD-replicate}
 use lib.Seq.{getD-set-same, getD-set-other}
 use borrow.Author.Count.{below-more}
-use borrow.Author.Tests.{lt-ltb, le-ltb}
+use borrow.Author.Tests.{lt-ltb, le-ltb, ne-eqb}
 use Rattle.rules.specs.Lists.{some}
 use Rattle.rules.specs.Bytes.{byteAt}
 use Rattle.rules.specs.States.{stateOf, stateAt, is, inExecution}
 use Rattle.rules.specs.Table.{planCount, parent, entry, bodyOf, retryAborted, isChild, childrenBefore, children}
-use Rattle.rules.specs.Step.{done}
-use Rattle.rules.specs.HandedIn.{suits, someBefore, breaksBody, breaksUnder, badState}
+use Rattle.rules.specs.HandedIn.{suits, letsLater, someBefore, tooEarly, breaksBody, breaksUnder, badState}
 use Rattle.rules.specs.declared.Body.{Body}
-use Rattle.rules.specs.declared.Body.the-variants.{Leaf, Sequential, Parallel, AnyOrder, Unordered}
+use Rattle.rules.specs.declared.Body.the-variants.{
+  Leaf,
+  Sequential,
+  Parallel,
+  AnyOrder,
+  Unordered,
+  OnAbort,
+  OnSuspend,
+  OnAbortOrSuspend,
+  IfThenElse,
+}
 use Rattle.rules.specs.declared.PlanEntry.{PlanEntry}
 use Rattle.rules.specs.declared.PlanState.{PlanState}
 use Rattle.rules.specs.declared.PlanState.the-variants.{
@@ -34,8 +43,8 @@ use Rattle.rules.specs.declared.PlanState.the-variants.{
   Rejected,
 }
 use Rattle.children.proofs.Kin.{some-snoc, children-own, children-other}
-use Rattle.lent.specs.BodyRule.{breaksBy}
-use Rattle.rules.proofs.Codes.{state-is}
+use Rattle.lent.specs.BodyRule.{standsAlone, shuts, breaksBy}
+use Rattle.rules.proofs.Codes.{state-is, test-byte}
 
 module _ (t : List ℕ) where
   -- one plan more among the children
@@ -124,20 +133,20 @@ marks-kept t n f p marks none before =
           (before .mark q l);
     }
 
--- what is marked: a child in execution, and one that its parent is not done with
-abbrev pub executing : List ℕ → ℕ → ℕ → Bool
-executing s q c = inExecution (stateAt s c)
+-- what is marked: a child that stands alone, and one that keeps the later ones Inactive
+abbrev pub aloneAt : List ℕ → List ℕ → ℕ → ℕ → Bool
+aloneAt t s q c = standsAlone (bodyOf (entry t q)) (stateAt s c)
 
-abbrev pub unfinished : List ℕ → List ℕ → ℕ → ℕ → Bool
-unfinished t s q c = not (done (retryAborted (entry t q)) (stateAt s c))
+abbrev pub shutAt : List ℕ → List ℕ → ℕ → ℕ → Bool
+shutAt t s q c = shuts (bodyOf (entry t q)) (retryAborted (entry t q)) (stateAt s c)
 
 -- what `lowest_bad_state` knows before its turn at plan p
-pub record Marking (t s : List ℕ) (n p : ℕ) (running undone : List ℕ) : Type 0 where
+pub record Marking (t s : List ℕ) (n p : ℕ) (alone shut : List ℕ) : Type 0 where
   pub started : 0 < p
   pub within : p ≤ n
   pub passed : (k : ℕ) → k < p → badState t s k ≡ false
-  pub runs : Marks t n (executing s) p running
-  pub undoes : Marks t n (unfinished t s) p undone
+  pub aloneMarks : Marks t n (aloneAt t s) p alone
+  pub shutMarks : Marks t n (shutAt t s) p shut
 
 module _ (t s : List ℕ) where
   -- a byte that is no code breaks a rule; where it is one, the root breaks none, and a child may break one with lower plans
@@ -167,93 +176,177 @@ inactive-suits Completed = refl
 inactive-suits Aborted = refl
 inactive-suits Rejected = refl
 
-inactive-keeps : (body : Body) (running undone : Bool) → breaksBy body Inactive running undone ≡ false
-inactive-keeps Leaf running undone = refl
-inactive-keeps Sequential running undone = refl
-inactive-keeps Parallel running undone = refl
-inactive-keeps AnyOrder running undone = refl
-inactive-keeps Unordered running undone = refl
+inactive-keeps : (body : Body) (alone shut : Bool) → breaksBy body Inactive alone shut ≡ false
+inactive-keeps Leaf alone shut = refl
+inactive-keeps Sequential alone shut = refl
+inactive-keeps Parallel alone shut = refl
+inactive-keeps AnyOrder alone shut = refl
+inactive-keeps Unordered alone shut = refl
+inactive-keeps OnAbort alone shut = refl
+inactive-keeps OnSuspend alone shut = refl
+inactive-keeps OnAbortOrSuspend alone shut = refl
+inactive-keeps IfThenElse alone shut = refl
 
 -- what a turn at plan p, the child of q, finds and does, in the code's words: `fits` and `breaks` are its tests, e is q's entry
 pub record MarkTurn
     (t s : List ℕ)
     (n p : ℕ)
-    (running undone : List ℕ)
+    (alone shut : List ℕ)
     (q : ℕ)
     (e : PlanEntry)
+    (body : Body)
     (child : PlanState)
     (fits breaks : Bool)
     : Type 0
   where
     pub tested : badState t s p ≡ (not fits || breaks)
     pub next :
-        badState t s p ≡ false → (again runs finished : Bool) (run undo : ℕ) → again ≡ retryAborted e → runs ≡ inExecution child
-        → finished ≡ done again child → eqb run 1 ≡ (eqb (byteAt running q) 1 || runs)
-        → eqb undo 1 ≡ (eqb (byteAt undone q) 1 || not finished)
-        → Marking t s n (p + 1) (set running q run) (set undone q undo)
+        badState t s p ≡ false → (again stands lets : Bool) (v u : ℕ) → again ≡ retryAborted e → stands ≡ standsAlone body child
+        → lets ≡ letsLater body again child → eqb v 1 ≡ (eqb (byteAt alone q) 1 || stands)
+        → eqb u 1 ≡ (eqb (byteAt shut q) 1 || not lets)
+        → Marking t s n (p + 1) (set alone q v) (set shut q u)
+
+-- a test that no number passes, and tests that agree
+some-none : (l : List ℕ) → some (λ c. false) l ≡ false
+some-none [] = refl
+some-none (c ∷ l) = some-none l
+
+some-same : (f g : ℕ → Bool) → ((c : ℕ) → f c ≡ g c) → (l : List ℕ) → some f l ≡ some g l
+some-same f g e [] = refl
+some-same f g e (c ∷ l) = ap₂ (λ (a b : Bool). a || b) (e c) (some-same f g e l)
+
+-- where an Inactive child keeps the later ones so, nothing is gained by asking for it
+shuts-by : (body : Body) (again : Bool) → letsLater body again Inactive ≡ false → (x : PlanState) → not (letsLater body again x) ≡ shuts body again x
+shuts-by body again e Inactive = rw e refl
+shuts-by body again e Considered = refl
+shuts-by body again e Possible = refl
+shuts-by body again e Ready = refl
+shuts-by body again e Activated = refl
+shuts-by body again e Suspended = refl
+shuts-by body again e Completed = refl
+shuts-by body again e Aborted = refl
+shuts-by body again e Rejected = refl
+
+-- whom any-order and if-then-else mark as standing alone
+alone-runs : (x : PlanState) → inExecution x ≡ standsAlone AnyOrder x
+alone-runs x = sym (or-false (inExecution x))
+
+alone-begun : (x : PlanState) → not (is Inactive x) ≡ standsAlone IfThenElse x
+alone-begun Inactive = refl
+alone-begun Considered = refl
+alone-begun Possible = refl
+alone-begun Ready = refl
+alone-begun Activated = refl
+alone-begun Suspended = refl
+alone-begun Completed = refl
+alone-begun Aborted = refl
+alone-begun Rejected = refl
 
 module _
     (t s : List ℕ)
     (n p : ℕ)
     (whole : n ≡ planCount t)
-    (running undone : List ℕ)
-    (before : Marking t s n p running undone)
+    (alone shut : List ℕ)
+    (before : Marking t s n p alone shut)
     (l : p < n)
     (coded : byteAt s p ≤ 8)
     (q : ℕ)
     (is-parent : q ≡ parent t p)
     (inside : q < n)
   where
+    abbrev again : Bool
+    again = retryAborted (entry t q)
+
+    abbrev begun : Bool
+    begun = not (is Inactive (stateAt s p))
+
+    -- a test of the lower children, by one that agrees with it
+    lower-test :
+        (f g : PlanState → Bool) → ((x : PlanState) → f x ≡ g x)
+        → someBefore t s q p f ≡ some (λ c. g (stateAt s c)) (childrenBefore t q p)
+    lower-test f g e =
+        some-before t s f q p (omega arith)
+        ∙ some-same (λ c. f (stateAt s c)) (λ c. g (stateAt s c)) (λ c. e (stateAt s c)) (childrenBefore t q p)
+
+    -- q's marks, where its body is known
+    module _ (body : Body) (is-body : bodyOf (entry t q) ≡ body) where
+      marked-alone : some (λ c. standsAlone body (stateAt s c)) (childrenBefore t q p) ≡ eqb (byteAt alone q) 1
+      marked-alone =
+          sym
+          (before .aloneMarks .mark q inside
+          ∙ ap (λ (b : Body). some (λ c. standsAlone b (stateAt s c)) (childrenBefore t q p)) is-body)
+
+      -- too early by the mark, where Inactive children keep the later ones so; never, where all children let them be
+      early-shut : letsLater body again Inactive ≡ false → tooEarly t s body q p ≡ (begun && eqb (byteAt shut q) 1)
+      early-shut e =
+          ap (λ (b : Bool). begun && b)
+          (lower-test (λ x. not (letsLater body again x)) (shuts body again) (shuts-by body again e)
+          ∙ sym
+          (before .shutMarks .mark q inside ∙ ap (λ (b : Body). some (λ c. shuts b again (stateAt s c)) (childrenBefore t q p)) is-body))
+
+    early-never : (body : Body) → ((x : PlanState) → letsLater body again x ≡ true) → tooEarly t s body q p ≡ false
+    early-never body e =
+        ap (λ (b : Bool). begun && b)
+        (lower-test (λ x. not (letsLater body again x)) (λ x. false) (λ x. ap not (e x)) ∙ some-none (childrenBefore t q p))
+        ∙ and-false begun
+
     -- the rule of q's body, by q's marks
     body-by :
-        (body : Body)
-        → breaksBody t s body q p ≡ breaksBy body (stateAt s p) (eqb (byteAt running q) 1) (eqb (byteAt undone q) 1)
-    body-by Leaf = refl
-    body-by Sequential =
-        ap (λ (b : Bool). not (is Inactive (stateAt s p)) && b)
-        (some-before t s (λ state. not (done (retryAborted (entry t q)) state)) q p (omega arith)
-        ∙ sym (before .undoes .mark q inside))
-    body-by Parallel = refl
-    body-by AnyOrder =
-        ap (λ (b : Bool). inExecution (stateAt s p) && b)
-        (some-before t s inExecution q p (omega arith) ∙ sym (before .runs .mark q inside))
-    body-by Unordered = refl
+        (body : Body) → bodyOf (entry t q) ≡ body
+        → breaksBody t s body q p ≡ breaksBy body (stateAt s p) (eqb (byteAt alone q) 1) (eqb (byteAt shut q) 1)
+    body-by Leaf e = early-never Leaf (λ x. refl)
+    body-by Sequential e = early-shut Sequential e refl
+    body-by Parallel e = early-never Parallel (λ x. refl)
+    body-by AnyOrder e =
+        ap₂ (λ (a b : Bool). inExecution (stateAt s p) && a || b)
+        (lower-test inExecution (standsAlone AnyOrder) alone-runs ∙ marked-alone AnyOrder e) (early-never AnyOrder (λ x. refl))
+        ∙ or-false _
+    body-by Unordered e = early-never Unordered (λ x. refl)
+    body-by OnAbort e = early-shut OnAbort e refl
+    body-by OnSuspend e = early-shut OnSuspend e refl
+    body-by OnAbortOrSuspend e = early-shut OnAbortOrSuspend e refl
+    body-by IfThenElse e =
+        ap (λ (b : Bool). begun && b)
+        (lower-test (λ x. not (is Inactive x)) (standsAlone IfThenElse) alone-begun ∙ marked-alone IfThenElse e)
 
     -- the rule of p, by its state, q's state and q's marks
     bad-by :
         badState t s p
         ≡ (not (suits (stateAt s q) (stateAt s p))
-        || breaksBy (bodyOf (entry t q)) (stateAt s p) (eqb (byteAt running q) 1) (eqb (byteAt undone q) 1))
+        || breaksBy (bodyOf (entry t q)) (stateAt s p) (eqb (byteAt alone q) 1) (eqb (byteAt shut q) 1))
     bad-by =
         bad-under t s p (before .started) coded
         ∙ ap (λ (k : ℕ). breaksUnder t s k p) (sym is-parent)
-        ∙ ap (λ (b : Bool). not (suits (stateAt s q) (stateAt s p)) || b) (body-by (bodyOf (entry t q)))
+        ∙ ap (λ (b : Bool). not (suits (stateAt s q) (stateAt s p)) || b) (body-by (bodyOf (entry t q)) refl)
 
+    -- the turn at a plan that is not Inactive
     pub mark-turn :
-        (e : PlanEntry) (child above : PlanState) (body : Body) (fits breaks : Bool) → e ≡ entry t q
+        (byteAt s p ≡ 0 → ⊥) → (e : PlanEntry) (child above : PlanState) (body : Body) (fits breaks : Bool) → e ≡ entry t q
         → child ≡ stateOf (byteAt s p) → above ≡ stateOf (byteAt s q) → body ≡ bodyOf e → fits ≡ suits above child
-        → breaks ≡ breaksBy body child (eqb (byteAt running q) 1) (eqb (byteAt undone q) 1)
-        → MarkTurn t s n p running undone q e child fits breaks
-    mark-turn e child above body fits breaks ee ec ea eb ef ek =
+        → breaks ≡ breaksBy body child (eqb (byteAt alone q) 1) (eqb (byteAt shut q) 1)
+        → MarkTurn t s n p alone shut q e body child fits breaks
+    mark-turn moving e child above body fits breaks ee ec ea eb ef ek =
+        let not-idle : is Inactive (stateAt s p) ≡ false =
+        ap (is Inactive) (state-is s p) ∙ sym (test-byte Inactive refl (byteAt s p)) ∙ ne-eqb (byteAt s p) 0 moving in
         record {
           tested = bad-by ∙ sym (rw (ef, ek, eb, ea, ec, ee, ← state-is s q, ← state-is s p));
           next =
-              λ good again runs finished run undo eg es ed er eu.
+              λ good again stands lets v u eg es el ev eu.
               record {
                 started = omega arith;
                 within = omega arith;
                 passed = below-more _ _ (before .passed) good;
-                runs =
-                    mark-next t n (executing s) p running (before .runs) (before .started) q run inside is-parent
-                    (er ∙ rw (es, ec, ← state-is s p));
-                undoes =
-                    mark-next t n (unfinished t s) p undone (before .undoes) (before .started) q undo inside is-parent
-                    (eu ∙ rw (ed, eg, ee, ec, ← state-is s p));
+                aloneMarks =
+                    mark-next t n (aloneAt t s) p alone (before .aloneMarks) (before .started) q v inside is-parent
+                    (ev ∙ rw (es, eb, ec, ee, ← state-is s p));
+                shutMarks =
+                    mark-next t n (shutAt t s) p shut (before .shutMarks) (before .started) q u inside is-parent
+                    (eu ∙ rw (el, eg, eb, ee, ec, ← state-is s p, not-idle));
               };
         }
 
-    -- the turn at an Inactive plan: it breaks no rule, is not in execution and is not done
-    pub idle-turn : byteAt s p ≡ 0 → Marking t s n (p + 1) running (set undone q 1)
+    -- the turn at an Inactive plan: it breaks no rule, does not stand alone and keeps the later ones Inactive
+    pub idle-turn : byteAt s p ≡ 0 → Marking t s n (p + 1) alone (set shut q 1)
     idle-turn zero-byte =
         let idle : stateAt s p ≡ Inactive = state-is s p ∙ ap stateOf zero-byte in
         let good : badState t s p ≡ false = bad-by ∙ rw (idle, inactive-suits (stateAt s q), inactive-keeps) refl in
@@ -261,8 +354,8 @@ module _
           started = omega arith;
           within = omega arith;
           passed = below-more _ _ (before .passed) good;
-          runs = marks-kept t n (executing s) p running (λ k. rw idle refl) (before .runs);
-          undoes =
-              mark-next t n (unfinished t s) p undone (before .undoes) (before .started) q 1 inside is-parent
-              (rw idle (sym (or-true (eqb (byteAt undone q) 1))));
+          aloneMarks = marks-kept t n (aloneAt t s) p alone (λ k. rw (idle, and-false) refl) (before .aloneMarks);
+          shutMarks =
+              mark-next t n (shutAt t s) p shut (before .shutMarks) (before .started) q 1 inside is-parent
+              (rw idle (sym (or-true (eqb (byteAt shut q) 1))));
         }

@@ -38,7 +38,7 @@ pub record Called (t s w ranks counts names : List ℕ) (outcome : Outcome) : Ty
   pub is : outcome ≡ callCheck t s w
   pub facts : outcome ≡ Done → Facts t ranks counts names
 
--- a table, its facts, states and words that pass: the plans may move
+-- a table, its facts, states that pass and words of the right length: the plans may move
 pub record MayMove (t s w ranks names : List ℕ) : Type 0 where
   pub prepared : Prepared t ranks names
   pub passes : PassesStates t s

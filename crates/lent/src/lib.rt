@@ -1,15 +1,16 @@
-// What a call lends: checks 10 to 12 of document 01, of its states and words, behind the checks of its table.
+// What a call lends: checks 10 to 12 of documents 01 and 02, of its states and words, behind the checks of its table.
 // Each check costs O(n) for n plans; nothing is allocated. Assumes nothing.
 ghost use mathlib.Core.Path.{_≡_};
 ghost use mathlib.Core.Bool.{_||_};
 ghost use lib.Dec.{eqb};
-ghost use Rattle.rules.specs.Words.{pickAllowed, otherBits, contradicts};
+ghost use Rattle.rules.specs.Words.{pickAllowed, contradicts};
 ghost use Rattle.rules.specs.Step.{done};
-ghost use Rattle.rules.specs.HandedIn.{suits, badState};
-ghost use Rattle.rules.specs.Answers.{wrongWordIf, wrongWord, badWord, lentCheck};
+ghost use Rattle.rules.specs.HandedIn.{suits, letsLater, badState};
+ghost use Rattle.rules.specs.Answers.{wrongWord, badWord, lentCheck};
 ghost use Rattle.table.specs.Facts.{FactsRoom};
 ghost use Rattle.table.specs.Lowest.{Lowest};
-ghost use Rattle.lent.specs.BodyRule.{breaksBy};
+ghost use Rattle.lent.specs.BodyRule.{standsAlone, breaksBy};
+ghost use Rattle.lent.specs.WordBits.{unusedBits, wrongBits};
 ghost use Rattle.lent.specs.Calls.{Planned, Counted, Tabled, Called};
 use reading::entry_at;
 use reading::parent_at;
@@ -42,12 +43,23 @@ pub fn check_call(
     }
 }
 
-// The part of check 12 that calls and records share, for a word whose pick is allowed or not: an unused bit, a wrong pick, or filter or
-// setup satisfied but not satisfiable.
-pub fn wrong_word_if(x: u32, pick_allowed: bool) -> bool
-    ensures { λ r. ⌜ r ≡ wrongWordIf «pick_allowed» x ⌝ }
+// The part of check 12 that calls and records share, by the bits that the word may not have and whether its pick is allowed: an unused
+// bit, a wrong pick, or filter, setup or if-then-else satisfied but not satisfiable.
+pub fn wrong_word_if(x: u32, unused: u32, pick_allowed: bool) -> bool
+    ensures { λ r. ⌜ r ≡ wrongBits unused «pick_allowed» x ⌝ }
 {
-    other_bits(x) | !pick_allowed | word_contradicts(x)
+    (x & unused != 0) | !pick_allowed | word_contradicts(x)
+}
+
+// The bits, but for the pick's, that the word of a plan with this body may not have: 22, 23, 30 and 31, and 20 and 21 but for
+// if-then-else.
+pub fn unused_bits(body: Body) -> u32
+    ensures { λ r. ⌜ r ≡ unusedBits body ⌝ }
+{
+    if body.is(Body::IfThenElse) {
+        return 0xC0C0_0000;
+    }
+    0xC0F0_0000
 }
 
 // Checks 10 to 12 of a call whose table passes.
@@ -79,8 +91,8 @@ fn lowest_bad_state(table: &[u8], n: usize, states: &[u8]) -> usize
     requires { ⌜ Planned (now table) n (now states) ⌝ }
     ensures { λ r. ⌜ Lowest (badState (now (table .entry)) (now (states .entry))) n r ⌝ }
 {
-    let mut running = [0u8; 256];
-    let mut undone = [0u8; 256];
+    let mut alone = [0u8; 256];
+    let mut shut = [0u8; 256];
     if PlanState::REJECTED < states[0] {
         return 0;
     }
@@ -91,18 +103,19 @@ fn lowest_bad_state(table: &[u8], n: usize, states: &[u8]) -> usize
         }
         let q = parent_at(table, p);
         if states[p] == PlanState::INACTIVE {
-            undone[q] = 1;
+            shut[q] = 1;
             p += 1;
             continue;
         }
         let e = entry_at(table, q);
+        let body = e.body_kind();
         let child = PlanState::from_byte(states[p]);
         let fits = child_suits(PlanState::from_byte(states[q]), child);
-        if !fits | breaks_by(e.body_kind(), child, running[q] == 1, undone[q] == 1) {
+        if !fits | breaks_by(body, child, alone[q] == 1, shut[q] == 1) {
             return p;
         }
-        running[q] = marked(running[q], child.in_execution());
-        undone[q] = marked(undone[q], !is_done(e.retries_aborted(), child));
+        alone[q] = marked(alone[q], stands_alone(body, child));
+        shut[q] = marked(shut[q], !lets_later(body, e.retries_aborted(), child));
         p += 1;
     }
     p
@@ -125,16 +138,46 @@ fn child_suits(parent: PlanState, child: PlanState) -> bool
     }
 }
 
-// Whether a child in a state breaks the rule of its parent's body, where some lower child is in execution or is not done.
-fn breaks_by(body: Body, child: PlanState, running: bool, undone: bool) -> bool
-    ensures { λ r. ⌜ r ≡ breaksBy body child running undone ⌝ }
+// Whether a child in a state breaks the rule of its parent's body, where some lower child stands alone or lets no later one begin.
+fn breaks_by(body: Body, child: PlanState, alone: bool, shut: bool) -> bool
+    ensures { λ r. ⌜ r ≡ breaksBy body child alone shut ⌝ }
 {
+    let begun = !child.is(PlanState::Inactive);
     match body {
         Body::Leaf => false,
-        Body::Sequential => !child.is(PlanState::Inactive) & undone,
+        Body::Sequential => begun & shut,
         Body::Parallel => false,
-        Body::AnyOrder => child.in_execution() & running,
+        Body::AnyOrder => child.in_execution() & alone,
         Body::Unordered => false,
+        Body::OnAbort => begun & shut,
+        Body::OnSuspend => begun & shut,
+        Body::OnAbortOrSuspend => begun & shut,
+        Body::IfThenElse => begun & alone,
+    }
+}
+
+// Whether a child keeps a second one from standing as it does: any-order, in execution; if-then-else, other than Inactive.
+fn stands_alone(body: Body, child: PlanState) -> bool
+    ensures { λ r. ⌜ r ≡ standsAlone body child ⌝ }
+{
+    child.in_execution() | (body.is(Body::IfThenElse) & !child.is(PlanState::Inactive))
+}
+
+// Whether a later child may be other than Inactive behind one in this state. What it says of if-then-else is not read: there a child that
+// is other than Inactive stands alone.
+fn lets_later(body: Body, again: bool, state: PlanState) -> bool
+    ensures { λ r. ⌜ r ≡ letsLater body again state ⌝ }
+{
+    match body {
+        Body::Leaf => true,
+        Body::Sequential => is_done(again, state),
+        Body::Parallel => true,
+        Body::AnyOrder => true,
+        Body::Unordered => true,
+        Body::OnAbort => state.is(PlanState::Aborted),
+        Body::OnSuspend => state.was_activated(),
+        Body::OnAbortOrSuspend => state.was_activated(),
+        Body::IfThenElse => state.is(PlanState::Inactive),
     }
 }
 
@@ -172,33 +215,25 @@ fn lowest_bad_word(table: &[u8], n: usize, counts: &[u8], words: &[u8]) -> usize
 fn wrong_word(e: PlanEntry, count: u8, x: u32) -> bool
     ensures { λ r. ⌜ r ≡ wrongWord e count x ⌝ }
 {
-    wrong_word_if(x, may_pick(e.body_kind(), count, pick_of(x)))
+    let body = e.body_kind();
+    wrong_word_if(x, unused_bits(body), may_pick(body, count, pick_of(x)))
 }
 
 // Whether a plan with so many children may make a pick.
 fn may_pick(body: Body, count: u8, pick: u32) -> bool
     ensures { λ r. ⌜ r ≡ pickAllowed body count pick ⌝ }
 {
-    match body {
-        Body::Leaf => pick == 0,
-        Body::Sequential => pick == 0,
-        Body::Parallel => pick == 0,
-        Body::AnyOrder => pick < count as u32,
-        Body::Unordered => pick == 0,
+    if body.is(Body::AnyOrder) {
+        return pick < count as u32;
     }
+    pick == 0
 }
 
-// Whether a word has a bit that no word may have.
-fn other_bits(x: u32) -> bool
-    ensures { λ r. ⌜ r ≡ otherBits x ⌝ }
-{
-    ((x >> 20) % 16 != 0) | ((x >> 30) % 4 != 0)
-}
-
-// Whether a word says of the filter or of the setup that its pattern is satisfied, and that it no longer can be. Both are asked at once:
-// bits 0 and 1 say that they are satisfied, and bits 6 and 7, which the shift brings under them, that they still can be.
+// Whether a word says of the filter, of the setup or of if-then-else that it is satisfied, and that it no longer can be. Filter and setup
+// are asked at once: bits 0 and 1 say that they are satisfied, and bits 6 and 7, which the shift brings under them, that they still can
+// be. Of if-then-else bits 20 and 21 say so.
 fn word_contradicts(x: u32) -> bool
     ensures { λ r. ⌜ r ≡ contradicts x ⌝ }
 {
-    (x & !(x >> 6)) % 4 != 0
+    ((x & !(x >> 6)) % 4 != 0) | (((x & !(x >> 1)) >> 20) % 2 == 1)
 }

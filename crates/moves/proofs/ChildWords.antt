@@ -17,14 +17,51 @@ use mathlib.Core.Bool.{
 use Prim.Native.Nat.{ℕ, _+_, _-_, _*_, _^_}
 use lib.Bits.{bitAnd, bitOr}
 use lib.Count.{ones, trailingZeros}
-use lib.Dec.{eqb}
+use lib.Dec.{T, eqb}
 use lib.ListN.{getD}
 use Rattle.rules.specs.Bytes.{isSet}
 use Rattle.rules.specs.Lists.{all, some, first}
 use Rattle.rules.specs.States.{code, stateAt, oneOf, is, ended}
-use Rattle.rules.specs.Table.{entry, bodyOf, named, retryAborted, waitForOptional, enough, waitFor, children, rank}
-use Rattle.rules.specs.Step.{done, firstNotDone, gateOpen, mayActivate, tooManyLost, childrenComplete, chosen, ordersOf, orders}
+use Rattle.rules.specs.Table.{
+  entry,
+  bodyOf,
+  ofTwo,
+  named,
+  retryAborted,
+  waitForOptional,
+  enough,
+  waitFor,
+  children,
+  firstChild,
+  rank,
+}
+use Rattle.rules.specs.Step.{
+  done,
+  stateOfFirst,
+  stateOfSecond,
+  firstNotDone,
+  gateOpen,
+  mayActivate,
+  tooManyLost,
+  allEnded,
+  childrenComplete,
+  chosen,
+  due,
+  ordersOf,
+  orders,
+}
 use Rattle.rules.specs.declared.Body.{Body}
+use Rattle.rules.specs.declared.Body.the-variants.{
+  Leaf,
+  Sequential,
+  Parallel,
+  AnyOrder,
+  Unordered,
+  OnAbort,
+  OnSuspend,
+  OnAbortOrSuspend,
+  IfThenElse,
+}
 use Rattle.rules.specs.declared.PlanEntry.{PlanEntry}
 use Rattle.rules.specs.declared.PlanState.{PlanState}
 use Rattle.rules.specs.declared.PlanState.the-variants.{
@@ -47,12 +84,14 @@ use Rattle.children.proofs.Sets.{
   set-none,
   set-passing,
   set-not-passing,
+  set-two,
   ranked-at,
   set-first,
   set-first-not,
 }
 use Rattle.rules.specs.Demands.{SubPlan}
-use Rattle.moves.specs.ChildWords.{ChildWords}
+use Rattle.rules.proofs.Digits.{bit}
+use Rattle.moves.specs.ChildWords.{HasTwo, ChildWords}
 use Rattle.moves.specs.Tells.{OwnEntry, InStates}
 
 -- Tests of a state, and of all in a list.
@@ -169,8 +208,7 @@ module _ {t s : List ℕ} {q : ℕ} where
         (rw (own .collected, h .word) (set-less t q (λ c. named (entry t c)) (λ c. oneOf (Rejected ∷ Aborted ∷ []) (stateAt s c)))))
 
     pub complete-is :
-        {completed : ℕ} {over : Bool} → InStates t s q (Completed ∷ []) completed
-        → over ≡ all (λ c. ended (stateAt s c)) (children t q)
+        {completed : ℕ} {over : Bool} → InStates t s q (Completed ∷ []) completed → over ≡ allEnded t s q
         → (enough e (ones (bitAnd names completed)) && (not (waitForOptional e) || over)) ≡ childrenComplete t s q
     unfolding childrenComplete
     complete-is h eo =
@@ -178,6 +216,12 @@ module _ {t s : List ℕ} {q : ℕ} where
         (waits t q _ _ (λ c. is Completed (stateAt s c)) (own .is)
         (rw (own .collected, h .word) (set-and t q (λ c. named (entry t c)) (λ c. is Completed (stateAt s c)))))
         (ap₂ (λ (e : PlanEntry) (b : Bool). not (waitForOptional e) || b) (own .is) eo)
+
+  -- of two children a word is made by the first and the second
+  pub of-two :
+      {ys : List PlanState} {w : ℕ} → HasTwo t q → InStates t s q ys w
+      → w ≡ bit (oneOf ys (stateOfFirst t s q)) + 2 * bit (oneOf ys (stateOfSecond t s q))
+  of-two {ys} two h = h .word ∙ set-two t q (λ c. oneOf ys (stateAt s c)) two
 
   -- a child p of q, by its rank
   module _ {sets : List ℕ} (known : ChildWords t s q sets) {p : ℕ} (child : SubPlan t q p) where
@@ -190,6 +234,9 @@ module _ {t s : List ℕ} {q : ℕ} where
         (set-first-not t (known .small) q p (child .child) (child .within) (known .few)
         (λ c. oneOf (doneStates again) (stateAt s c))
         ∙ simp (← done-states again))
+
+    pub first-is : eqb (rank t p) 0 ≡ eqb p (firstChild t q)
+    first-is = ranked-at t (known .small) q p (child .child) (child .within) 0
 
     -- the pick where it is Ready, else the lowest Ready child
     abbrev ready : ℕ → Bool
@@ -214,10 +261,25 @@ module _ {t s : List ℕ} {q : ℕ} where
         rw (h .word) (set-first t (known .small) q p (child .child) (child .within) (known .few) ready)
         ∙ ap (eqb p) (sym (set-not-passing t q ready (picks q) lowest (rw (h .word) at e)))
 
+-- which child is due counts only where there are two
+due-counts :
+    (body : Body) (again isNext gate isChosen a b : Bool) → (T (ofTwo body) → a ≡ b)
+    → ordersOf body again isNext gate isChosen a ≡ ordersOf body again isNext gate isChosen b
+due-counts Leaf again n g c a b e = refl
+due-counts Sequential again n g c a b e = refl
+due-counts Parallel again n g c a b e = refl
+due-counts AnyOrder again n g c a b e = refl
+due-counts Unordered again n g c a b e = refl
+due-counts OnAbort again n g c a b e = rw (e tt) refl
+due-counts OnSuspend again n g c a b e = rw (e tt) refl
+due-counts OnAbortOrSuspend again n g c a b e = rw (e tt) refl
+due-counts IfThenElse again n g c a b e = rw (e tt) refl
+
 -- what the answers to these questions make together
 pub orders-is :
-    (t s : List ℕ) (choice : ℕ → ℕ) (q p : ℕ) {body : Body} {again isNext gate isChosen : Bool} → body ≡ bodyOf (entry t q)
+    (t s : List ℕ) (x : ℕ) (choice : ℕ → ℕ) (q p : ℕ) {body : Body} {again isNext gate isChosen isDue : Bool} → body ≡ bodyOf (entry t q)
     → again ≡ retryAborted (entry t q) → isNext ≡ eqb p (firstNotDone t s q) → gate ≡ gateOpen t s q
-    → isChosen ≡ (mayActivate t s q && eqb p (choice q)) → ordersOf body again isNext gate isChosen ≡ orders t s choice q p
+    → isChosen ≡ (mayActivate t s q && eqb p (choice q)) → (T (ofTwo (bodyOf (entry t q))) → isDue ≡ due t s x q p)
+    → ordersOf body again isNext gate isChosen isDue ≡ orders t s x choice q p
 unfolding orders
-orders-is t s choice q p eb ea en eg ec = rw (eb, ea, en, eg, ec)
+orders-is t s x choice q p eb ea en eg ec ed = rw (eb, ea, en, eg, ec) (due-counts (bodyOf (entry t q)) _ _ _ _ _ _ ed)

@@ -47,7 +47,7 @@ module _ (t s w : List ℕ) (choice : ℕ → ℕ) where
   -- orders, given whether the parent was and stays Activated
   module _ (before after : PlanState) (q p : ℕ) where
     pub orders-given :
-        (is Activated before && is Activated after) ≡ true → ordersIf t s w choice before after q p ≡ orders t s choice q p
+        (is Activated before && is Activated after) ≡ true → ordersIf t s w choice before after q p ≡ orders t s (word w q) choice q p
     orders-given e = rw e
 
     pub orders-none : (is Activated before && is Activated after) ≡ false → ordersIf t s w choice before after q p ≡ none

@@ -7,14 +7,32 @@ use mathlib.Core.List.{List}
 use lib.Dec.{eqb}
 use Rattle.rules.specs.Lists.{all}
 use Rattle.rules.specs.States.{stateAt, oneOf, is, ended}
-use Rattle.rules.specs.Table.{entry, named, retryAborted, children, rank}
+use Rattle.rules.specs.Table.{entry, bodyOf, named, retryAborted, children, rank}
 use Rattle.rules.specs.Demands.{SubPlan}
-use Rattle.rules.specs.Step.{tooManyLost, childrenComplete, firstNotDone, gateOpen, mayActivate, chosen, orders, ordersIf}
+use Rattle.rules.specs.Words.{word}
+use Rattle.rules.specs.Step.{
+  badTurn,
+  branchTaken,
+  dueOfTwo,
+  bothEnded,
+  stateOfFirst,
+  stateOfSecond,
+  tooManyLost,
+  allEnded,
+  childrenComplete,
+  firstNotDone,
+  gateOpen,
+  mayActivate,
+  chosen,
+  orders,
+  ordersIf,
+}
+use Rattle.rules.specs.declared.Body.{Body}
 use Rattle.rules.specs.declared.PlanEntry.{PlanEntry}
 use Rattle.rules.specs.declared.Orders.{Orders}
 use Rattle.rules.specs.declared.PlanState.{PlanState}
 use Rattle.children.specs.Sets.{setOf}
-use Rattle.moves.specs.ChildWords.{ChildWords}
+use Rattle.moves.specs.ChildWords.{HasTwo, ChildWords}
 
 -- e is the entry of plan q, and names the word of its named children
 pub record OwnEntry (t : List ℕ) (q : ℕ) (e : PlanEntry) (names : ℕ) : Type 0 where
@@ -51,24 +69,47 @@ module _ (sets : List ℕ) (q : ℕ) where
       (t s : List ℕ) (picks : ℕ → ℕ) (p : ℕ) → ChildWords t s q sets → SubPlan t q p → picks q ≡ pick
       → eqb (rank t p) r ≡ eqb p (chosen t s picks q)
 
-  -- what q orders its child of a rank, `isChosen` saying whether that is the chosen one; and given q's states before and after
-  abbrev pub TellsOrders : PlanEntry → ℕ → Bool → Orders → Type 0
-  TellsOrders e k isChosen r =
-      (t s : List ℕ) (choice : ℕ → ℕ) (p : ℕ) → ChildWords t s q sets → RankedChild t q p k → e ≡ entry t q
-      → isChosen ≡ eqb p (choice q) → r ≡ orders t s choice q p
+  -- two children: by the old states of the first and the second, the turn of the first, the branch of if-then-else with a word, whether
+  -- the first or the second is considered, and whether both count as ended
+  module _ (body : Body) where
+    abbrev pub TellsBadTurn : Bool → Type 0
+    TellsBadTurn r = (t s : List ℕ) → ChildWords t s q sets → HasTwo t q → r ≡ badTurn body (stateOfFirst t s q)
 
-  abbrev pub TellsOrdersIf : PlanState → PlanState → PlanEntry → ℕ → Bool → Orders → Type 0
-  TellsOrdersIf before after e k isChosen r =
-      (t s w : List ℕ) (choice : ℕ → ℕ) (p : ℕ) → ChildWords t s q sets → RankedChild t q p k → e ≡ entry t q
+    abbrev pub TellsDue : ℕ → Bool → Bool → Type 0
+    TellsDue x isFirst r =
+        (t s : List ℕ) → ChildWords t s q sets → HasTwo t q
+        → r ≡ dueOfTwo body x isFirst (stateOfFirst t s q) (stateOfSecond t s q)
+
+    abbrev pub TellsBothEnded : Bool → Type 0
+    TellsBothEnded r =
+        (t s : List ℕ) → ChildWords t s q sets → HasTwo t q → r ≡ bothEnded body (stateOfFirst t s q) (stateOfSecond t s q)
+
+  abbrev pub TellsBranch : ℕ → Bool → Bool → Type 0
+  TellsBranch x isFirst r =
+      (t s : List ℕ) → ChildWords t s q sets → HasTwo t q → r ≡ branchTaken x isFirst (stateOfFirst t s q) (stateOfSecond t s q)
+
+  -- what q, by its entry and word, orders its child of a rank, `isChosen` saying whether that is the chosen one; and given q's states
+  -- before and after
+  abbrev pub TellsOrders : PlanEntry → ℕ → ℕ → Bool → Orders → Type 0
+  TellsOrders e x k isChosen r =
+      (t s : List ℕ) (choice : ℕ → ℕ) (p : ℕ) → ChildWords t s q sets → RankedChild t q p k → e ≡ entry t q
+      → isChosen ≡ eqb p (choice q) → r ≡ orders t s x choice q p
+
+  abbrev pub TellsOrdersIf : PlanState → PlanState → PlanEntry → ℕ → ℕ → Bool → Orders → Type 0
+  TellsOrdersIf before after e x k isChosen r =
+      (t s w : List ℕ) (choice : ℕ → ℕ) (p : ℕ) → ChildWords t s q sets → RankedChild t q p k → e ≡ entry t q → x ≡ word w q
       → isChosen ≡ eqb p (choice q) → r ≡ ordersIf t s w choice before after q p
 
   -- the word of the children that are in one of a few states
   abbrev pub TellsWord : List PlanState → ℕ → Type 0
   TellsWord ys r = (t s : List ℕ) → ChildWords t s q sets → InStates t s q ys r
 
-  -- whether all children are ended
-  abbrev pub TellsAllEnded : Bool → Type 0
-  TellsAllEnded r = (t s : List ℕ) → ChildWords t s q sets → r ≡ all (λ c. ended (stateAt s c)) (children t q)
+  -- whether each child is ended, and whether all are, which q's body says of two
+  abbrev pub TellsEachEnded : Bool → Type 0
+  TellsEachEnded r = (t s : List ℕ) → ChildWords t s q sets → r ≡ all (λ c. ended (stateAt s c)) (children t q)
+
+  abbrev pub TellsAllEnded : Body → Bool → Type 0
+  TellsAllEnded body r = (t s : List ℕ) → ChildWords t s q sets → body ≡ bodyOf (entry t q) → r ≡ allEnded t s q
 
   -- whether too many children of q in the table t are lost, and whether they let q complete
   abbrev pub TellsLost : List ℕ → Bool → Type 0

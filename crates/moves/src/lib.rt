@@ -9,11 +9,12 @@ ghost use Rattle.rules.specs.Table.{planCount, parent, entry};
 ghost use Rattle.rules.specs.Words.{word};
 ghost use Rattle.rules.specs.Words.{holds as Words·holds, satisfiable as Words·satisfiable};
 ghost use Rattle.rules.specs.declared.PlanState.the-variants.{Inactive, Considered, Possible, Activated, Suspended};
-ghost use Rattle.rules.specs.Step.{none, rootOrders, ordersOf, newState};
+ghost use Rattle.rules.specs.Step.{none, rootOrders, ordersOfTwo, ordersOf, afterAbort, afterSuspend, newState};
 ghost use Rattle.rules.specs.Step.{chosen as Step·chosen};
 ghost use Rattle.moves.specs.ChildWords.{HasWords};
 ghost use Rattle.moves.specs.Tells.{TellsFirstNotDone, TellsGate, TellsMayActivate, TellsChosenRank, TellsOrders, TellsOrdersIf};
-ghost use Rattle.moves.specs.Tells.{TellsAllEnded, TellsLost, TellsComplete, TellsWord};
+ghost use Rattle.moves.specs.Tells.{TellsEachEnded, TellsAllEnded, TellsLost, TellsComplete, TellsWord};
+ghost use Rattle.moves.specs.Tells.{TellsBadTurn, TellsBranch, TellsDue, TellsBothEnded};
 ghost use Rattle.moves.specs.Parents.{parentState, ordersAt};
 ghost use Rattle.moves.specs.StepFacts.{picksOf, StepFacts, OwnBytes, OwnChildren, MoveFacts};
 use reading::entry_at;
@@ -24,6 +25,7 @@ use rules::Condition;
 use rules::Orders;
 use rules::PlanEntry;
 use rules::PlanState;
+use rules::is_set;
 
 // The new state of plan p: document 01's list, 'By the parent's new state', from the top; where a state has several outcomes, the first
 // whose test fits, and `else` means that none before it did. docs/MOVE.md lays list, definition and code side by side.
@@ -74,7 +76,7 @@ pub fn next_state(
     // what is left, Activated or Suspended: by the plan's old state
     match state {
         PlanState::Inactive => {
-            if orders(table, ranks, sets, picks, old, parent, p).considers {
+            if orders(table, ranks, sets, picks, old, words, parent, p).considers {
                 PlanState::Considered
             } else {
                 state
@@ -99,7 +101,7 @@ pub fn next_state(
             }
         }
         PlanState::Ready => {
-            if orders(table, ranks, sets, picks, old, parent, p).activates {
+            if orders(table, ranks, sets, picks, old, words, parent, p).activates {
                 PlanState::Activated
             } else {
                 state
@@ -132,7 +134,7 @@ pub fn next_state(
         // the plan has ended
         PlanState::Completed | PlanState::Rejected => state,
         PlanState::Aborted => {
-            if orders(table, ranks, sets, picks, old, parent, p).retries {
+            if orders(table, ranks, sets, picks, old, words, parent, p).retries {
                 PlanState::Considered
             } else {
                 state
@@ -180,7 +182,7 @@ fn too_many_lost(table: &[u8], names: &[u64], sets: &[u64], p: usize) -> bool
 }
 
 // Whether the children of plan p, by their old states, let it complete: wait-for holds of the Completed ones, and, with
-// wait-for-optional, all are ended.
+// wait-for-optional, all are ended; of a body of two (5 to 8), both count as ended.
 fn may_complete(table: &[u8], names: &[u64], sets: &[u64], p: usize) -> bool
     requires { ⌜ OwnChildren (now table) (now names) (now sets) p ⌝ }
     ensures { λ r. ⌜ TellsComplete (now (sets .entry)) p (now (table .entry)) r ⌝ }
@@ -192,17 +194,57 @@ fn may_complete(table: &[u8], names: &[u64], sets: &[u64], p: usize) -> bool
     if !e.waits_for_optional() {
         return true;
     }
-    all_ended(sets, p)
+    all_ended(e.body_kind(), sets, p)
 }
 
-// Whether all children of plan p are ended.
-fn all_ended(sets: &[u64], p: usize) -> bool
+// Whether all children of plan p are ended; of a body of two, whether both count as ended.
+fn all_ended(body: Body, sets: &[u64], p: usize) -> bool
     requires { ⌜ HasWords (now sets) p ⌝ }
-    ensures { λ r. ⌜ TellsAllEnded (now (sets .entry)) p r ⌝ }
+    ensures { λ r. ⌜ TellsAllEnded (now (sets .entry)) p body r ⌝ }
+{
+    if body.is_of_two() {
+        return both_ended(body, sets, p);
+    }
+    each_ended(sets, p)
+}
+
+// Whether each child of plan p is ended.
+fn each_ended(sets: &[u64], p: usize) -> bool
+    requires { ⌜ HasWords (now sets) p ⌝ }
+    ensures { λ r. ⌜ TellsEachEnded (now (sets .entry)) p r ⌝ }
 {
     let waiting = before_ready(sets, p);
     let begun = in_state(sets, p, PlanState::Ready) | running(sets, p);
     (waiting | begun) == 0
+}
+
+// Whether the two children of plan p count as ended: each is ended or Inactive, one is ended, and, where the second is there for an
+// Aborted first, it is not Inactive beside one.
+fn both_ended(body: Body, sets: &[u64], p: usize) -> bool
+    requires { ⌜ HasWords (now sets) p ⌝ }
+    ensures { λ r. ⌜ TellsBothEnded (now (sets .entry)) p body r ⌝ }
+{
+    let idle = in_state(sets, p, PlanState::Inactive);
+    let aborted = in_state(sets, p, PlanState::Aborted);
+    let over = in_state(sets, p, PlanState::Completed)
+        | in_state(sets, p, PlanState::Rejected)
+        | aborted;
+    let second_waits = after_abort(body) & (aborted == 1) & (idle == 2);
+    ((idle | over) == 3) & (over != 0) & !second_waits
+}
+
+// Whether the second of two children is there for a first that is Aborted.
+fn after_abort(body: Body) -> bool
+    ensures { λ r. ⌜ r ≡ afterAbort body ⌝ }
+{
+    body.is(Body::OnAbort) | body.is(Body::OnAbortOrSuspend)
+}
+
+// Whether it is there for a first that is Suspended.
+fn after_suspend(body: Body) -> bool
+    ensures { λ r. ⌜ r ≡ afterSuspend body ⌝ }
+{
+    body.is(Body::OnSuspend) | body.is(Body::OnAbortOrSuspend)
 }
 
 // What plan p is ordered, given its parent's new state: nothing unless the parent was and stays Activated, and a retry only if the parent
@@ -213,13 +255,14 @@ fn orders(
     sets: &[u64],
     picks: &[u8],
     old: &[u8],
+    words: &[u8],
     after: PlanState,
     p: usize,
 ) -> Orders
     requires facts { ⌜ StepFacts (now table) (now old) (now ranks) (now sets) (now picks) ⌝ }
-    requires plan { ⌜ p < planCount (now table) ⌝ }
-    ensures { λ r. ⌜ ((w : List ℕ) → r ≡ ordersAt (now (table .entry)) (now (old .entry)) w
-        (Step·chosen (now (table .entry)) (now (old .entry)) (picksOf (now (picks .entry)))) after p) ⌝ }
+    requires plan { ⌜ (p < planCount (now table)) × (4 * p + 4 ≤ length (now words)) ⌝ }
+    ensures { λ r. ⌜ r ≡ ordersAt (now (table .entry)) (now (old .entry)) (now (words .entry))
+        (Step·chosen (now (table .entry)) (now (old .entry)) (picksOf (now (picks .entry)))) after p ⌝ }
 {
     if p == 0 {
         return root_orders();
@@ -228,7 +271,8 @@ fn orders(
     let before = PlanState::from_byte(old[q]);
     let rank = wide(ranks[p]);
     let chosen = rank == chosen_rank(sets, q, wide(picks[q]));
-    orders_if(before, after, entry_at(table, q), sets, q, rank, chosen)
+    let e = entry_at(table, q);
+    orders_if(before, after, e, word_at(words, q), sets, q, rank, chosen)
 }
 
 // What a parent orders a child, given the parent's states before and after: nothing unless it was and stays Activated.
@@ -236,34 +280,45 @@ fn orders_if(
     before: PlanState,
     after: PlanState,
     e: PlanEntry,
+    word: u32,
     sets: &[u64],
     q: usize,
     rank: u32,
     chosen: bool,
 ) -> Orders
     requires { ⌜ HasWords (now sets) q ⌝ }
-    ensures { λ r. ⌜ TellsOrdersIf (now (sets .entry)) q before after e rank chosen r ⌝ }
+    ensures { λ r. ⌜ TellsOrdersIf (now (sets .entry)) q before after e word rank chosen r ⌝ }
 {
     if before.is(PlanState::Activated) & after.is(PlanState::Activated) {
-        return orders_to(e, sets, q, rank, chosen);
+        return orders_to(e, word, sets, q, rank, chosen);
     }
     no_orders()
 }
 
-// What plan q, whose entry is e, orders its child of a rank; `chosen` says that this is the child that an any-order plan would activate.
-fn orders_to(e: PlanEntry, sets: &[u64], q: usize, rank: u32, chosen: bool) -> Orders
+// What plan q, by its entry and input word, orders its child of a rank; `chosen` says that this is the child that an any-order plan would
+// activate.
+fn orders_to(e: PlanEntry, word: u32, sets: &[u64], q: usize, rank: u32, chosen: bool) -> Orders
     requires { ⌜ HasWords (now sets) q ⌝ }
-    ensures { λ r. ⌜ TellsOrders (now (sets .entry)) q e rank chosen r ⌝ }
+    ensures { λ r. ⌜ TellsOrders (now (sets .entry)) q e word rank chosen r ⌝ }
 {
+    let body = e.body_kind();
     let again = e.retries_aborted();
     let is_next = rank == first_not_done(sets, q, again);
     let is_chosen = may_activate(sets, q, again) & chosen;
-    orders_by(e.body_kind(), again, is_next, gate_open(sets, q), is_chosen)
+    let is_due = due(body, word, sets, q, rank == 0);
+    orders_by(body, again, is_next, gate_open(sets, q), is_chosen, is_due)
 }
 
 // What a plan orders one child, by the plan's body.
-fn orders_by(body: Body, again: bool, is_next: bool, gate: bool, is_chosen: bool) -> Orders
-    ensures { λ r. ⌜ r ≡ ordersOf body again «is_next» gate «is_chosen» ⌝ }
+fn orders_by(
+    body: Body,
+    again: bool,
+    is_next: bool,
+    gate: bool,
+    is_chosen: bool,
+    is_due: bool,
+) -> Orders
+    ensures { λ r. ⌜ r ≡ ordersOf body again «is_next» gate «is_chosen» «is_due» ⌝ }
 {
     match body {
         Body::Leaf => no_orders(),
@@ -287,7 +342,56 @@ fn orders_by(body: Body, again: bool, is_next: bool, gate: bool, is_chosen: bool
             activates: true,
             retries: again,
         },
+        Body::OnAbort => orders_of_two(is_due),
+        Body::OnSuspend => orders_of_two(is_due),
+        Body::OnAbortOrSuspend => orders_of_two(is_due),
+        Body::IfThenElse => orders_of_two(is_due),
     }
+}
+
+// What a plan with two children orders one of them.
+fn orders_of_two(is_due: bool) -> Orders
+    ensures { λ r. ⌜ r ≡ ordersOfTwo «is_due» ⌝ }
+{
+    Orders {
+        considers: is_due,
+        activates: true,
+        retries: false,
+    }
+}
+
+// Whether plan q, whose body is one of two, considers its first child, or its second; of other bodies the answer is not read.
+fn due(body: Body, word: u32, sets: &[u64], q: usize, is_first: bool) -> bool
+    requires { ⌜ HasWords (now sets) q ⌝ }
+    ensures { λ r. ⌜ TellsDue (now (sets .entry)) q body word «is_first» r ⌝ }
+{
+    if body.is(Body::IfThenElse) {
+        return branch_taken(word, sets, q, is_first);
+    }
+    is_first | bad_turn(body, sets, q)
+}
+
+// If-then-else: while both children are Inactive, the first is considered if the condition is satisfied, the second if it is not
+// satisfiable.
+fn branch_taken(word: u32, sets: &[u64], q: usize, is_first: bool) -> bool
+    requires { ⌜ HasWords (now sets) q ⌝ }
+    ensures { λ r. ⌜ TellsBranch (now (sets .entry)) q word «is_first» r ⌝ }
+{
+    let open = in_state(sets, q, PlanState::Inactive) == 3;
+    if is_first {
+        return open & is_set(word, 20);
+    }
+    open & !is_set(word, 21)
+}
+
+// Whether the first child of plan q has taken the turn for which the second is there.
+fn bad_turn(body: Body, sets: &[u64], q: usize) -> bool
+    requires { ⌜ HasWords (now sets) q ⌝ }
+    ensures { λ r. ⌜ TellsBadTurn (now (sets .entry)) q body r ⌝ }
+{
+    let aborted = in_state(sets, q, PlanState::Aborted) % 2 == 1;
+    let suspended = in_state(sets, q, PlanState::Suspended) % 2 == 1;
+    (after_abort(body) & aborted) | (after_suspend(body) & suspended)
 }
 
 // No orders.

@@ -13,7 +13,8 @@ use borrow.Author.Tests.{eq-eqb, ne-eqb}
 use Rattle.rules.specs.Lists.{some, first, noPlan}
 use Rattle.rules.specs.Bytes.{byteAt}
 use Rattle.rules.specs.States.{code, stateAt, is}
-use Rattle.rules.specs.Table.{planCount, parent, entry, bodyOf, isAnyOrder, rank, childrenBefore, children}
+use Rattle.rules.specs.Table.{planCount, parent, entry, bodyOf, isBody, rank, childrenBefore, children}
+use Rattle.rules.specs.declared.Body.the-variants.{AnyOrder}
 use Rattle.rules.specs.declared.PlanState.the-variants.{Ready, Activated}
 use Rattle.rules.proofs.Codes.{state-is, test-byte}
 use Rattle.children.specs.Sets.{Rooted}
@@ -149,7 +150,7 @@ module _ (t s shown : List ℕ) where
   isShown c = is Activated (stateAt shown c)
 
   abbrev picksAny : ℕ → Bool
-  picksAny q = isAnyOrder (bodyOf (entry t q))
+  picksAny q = isBody AnyOrder (bodyOf (entry t q))
 
   abbrev KeptBefore : ℕ → ℕ → ℕ → ℕ → Type 0
   KeptBefore q p v m = Kept isReady isShown (rank t) (picksAny q) (childrenBefore t q p) v m

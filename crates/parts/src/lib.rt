@@ -2,7 +2,7 @@
 // if any do. Each function costs O(n) for n plans at most; nothing is copied. Assumes a record of good form and a table that passes.
 ghost use mathlib.Core.Path.{_≡_};
 ghost use mathlib.Core.List.{List};
-ghost use Prim.Native.Nat.{ℕ, _+_, _*_, _≤_};
+ghost use Prim.Native.Nat.{ℕ, _+_, _*_, _≤_, _<_};
 ghost use lib.ListN.{length, take, replicate};
 ghost use Rattle.rules.specs.States.{code};
 ghost use Rattle.rules.specs.Table.{planCount};
@@ -10,11 +10,14 @@ ghost use Rattle.rules.specs.Record.{wordsOf, statesOf, statesBefore};
 ghost use Rattle.rules.specs.Answers.{badRecordWord};
 ghost use Rattle.rules.specs.declared.PlanState.the-variants.{Inactive};
 ghost use Rattle.table.specs.Lowest.{Lowest};
-ghost use Rattle.parts.specs.OneStep.{Lies, anyBelow, Witnessed, Ordered};
+ghost use Rattle.children.specs.Sets.{Beyond};
+ghost use Rattle.parts.specs.OneStep.{Lies, anyBelow, Unused, wrongAt, Witnessed, Ordered};
+use lent::unused_bits;
 use lent::wrong_word_if;
 use reading::entry_at;
 use reading::parent_at;
 use reading::word_at;
+use rules::Body;
 use rules::PlanState;
 use rules::pick_of;
 
@@ -49,17 +52,28 @@ pub fn states_before<'a>(idle: &'a [u8], record: &'a [u8], n: usize, i: usize) -
     states_of(record, n, i - 1)
 }
 
-// Check 12: the lowest plan with a wrong word, or n.
-pub fn lowest_wrong_word(words: &[u8], n: usize) -> usize
-    requires { ⌜ 4 * n ≤ length (now words) ⌝ }
-    ensures { λ r. ⌜ Lowest (badRecordWord (now (words .entry))) n r ⌝ }
+// For each plan the bits that its words may not have, but for the pick's: found once for all steps.
+pub fn find_unused(table: &[u8], n: usize, unused: &mut [u32])
+    requires { ⌜ (n ≤ 256) × (8 + 8 * n ≤ length (now table)) × (n ≤ length (now unused)) ⌝ }
+    ensures found { λ _. ⌜ Unused (now (table .entry)) n (now (unused .exit)) ⌝ }
+    ensures rest { λ _. ⌜ Beyond n (now (unused .entry)) (now (unused .exit)) ⌝ }
 {
-    if !any_wrong_word(words, n) {
+    for p in 0..n {
+        unused[p] = unused_bits(entry_at(table, p).body_kind());
+    }
+}
+
+// Check 12: the lowest plan with a wrong word, or n.
+pub fn lowest_wrong_word(table: &[u8], unused: &[u32], words: &[u8], n: usize) -> usize
+    requires { ⌜ Unused (now table) n (now unused) × (4 * n ≤ length (now words)) ⌝ }
+    ensures { λ r. ⌜ Lowest (badRecordWord (now (table .entry)) (now (words .entry))) n r ⌝ }
+{
+    if !any_wrong_word(unused, words, n) {
         return n;
     }
     let mut p = 0;
     while p < n {
-        if wrong_word(words, p) {
+        if wrong_word(unused, words, p) {
             return p;
         }
         p += 1;
@@ -93,7 +107,7 @@ pub fn find_picks(
             continue;
         }
         let q = parent_at(table, p);
-        let any_order = entry_at(table, q).body_kind().is_any_order();
+        let any_order = entry_at(table, q).body_kind().is(Body::AnyOrder);
         if (kept[q] == PlanState::ACTIVATED) | !any_order {
             continue;
         }
@@ -103,23 +117,23 @@ pub fn find_picks(
 }
 
 // Check 12 of the word of plan p.
-fn wrong_word(words: &[u8], p: usize) -> bool
-    requires { ⌜ 4 * p + 4 ≤ length (now words) ⌝ }
-    ensures { λ r. ⌜ r ≡ badRecordWord (now (words .entry)) p ⌝ }
+fn wrong_word(unused: &[u32], words: &[u8], p: usize) -> bool
+    requires { ⌜ (p < length (now unused)) × (4 * p + 4 ≤ length (now words)) ⌝ }
+    ensures { λ r. ⌜ r ≡ wrongAt (now (unused .entry)) (now (words .entry)) p ⌝ }
 {
     let x = word_at(words, p);
-    wrong_word_if(x, pick_of(x) == 0)
+    wrong_word_if(x, unused[p], pick_of(x) == 0)
 }
 
 // Check 12: whether one of the first n words is wrong. It has no branch, so that the compiler can look at several words at once: in
 // nearly every step all words are right.
-fn any_wrong_word(words: &[u8], n: usize) -> bool
-    requires { ⌜ 4 * n ≤ length (now words) ⌝ }
-    ensures { λ r. ⌜ r ≡ anyBelow (badRecordWord (now (words .entry))) n ⌝ }
+fn any_wrong_word(unused: &[u32], words: &[u8], n: usize) -> bool
+    requires { ⌜ (n ≤ length (now unused)) × (4 * n ≤ length (now words)) ⌝ }
+    ensures { λ r. ⌜ r ≡ anyBelow (wrongAt (now (unused .entry)) (now (words .entry))) n ⌝ }
 {
     let mut bad = false;
     for p in 0..n {
-        bad = bad | wrong_word(words, p);
+        bad = bad | wrong_word(unused, words, p);
     }
     bad
 }

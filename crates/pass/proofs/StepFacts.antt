@@ -19,6 +19,7 @@ use Rattle.rules.proofs.Tree.{or-left, Passes, passes, Tree, tree}
 use Rattle.children.specs.Sets.{setBefore, setOf, Empty, Codes, Rooted, Narrow, Surveyed}
 use Rattle.children.proofs.Kin.{same-set, few-children}
 use Rattle.demands.proofs.PlanByPlan.{same-picks}
+use Rattle.demands.proofs.TwoChildren.{two-children}
 use Rattle.moves.specs.ChildWords.{ChildWords}
 use Rattle.moves.specs.StepFacts.{picksOf, StepFacts, Names}
 use Rattle.lent.specs.Calls.{MayMove}
@@ -77,6 +78,7 @@ module _ (t s w ranks names : List ℕ) (moves : MayMove t s w ranks names) (n :
         record {
           small = shape .small;
           few = few-children t (planCount t) (shape .narrow) q (planCount t) (omega arith);
+          two = two-children t passed q l;
           word =
               λ x.
               surveyed .word q (code x) (omega arith) (code-lt x)

@@ -148,8 +148,8 @@ module _ {t r ranks names : List ℕ} {n steps i : ℕ} (here : Here t r ranks n
   next-surveyed shown sets is-shown surveyed = rw (add-one i) (rw is-shown at surveyed)
 
   -- check 12
-  module _ (words : List ℕ) (is-words : words ≡ wordsOf t r i) (p : ℕ) (lowest : Lowest (badRecordWord words) n p) where
-    lowest-word : Lowest (badRecordWord (wordsOf t r i)) n p
+  module _ (words : List ℕ) (is-words : words ≡ wordsOf t r i) (p : ℕ) (lowest : Lowest (badRecordWord t words) n p) where
+    lowest-word : Lowest (badRecordWord t (wordsOf t r i)) n p
     lowest-word = rw is-words at lowest
 
     pub stops-at-word : p < n → Judged t r (verdict.Refused (Word (i + 1) p))

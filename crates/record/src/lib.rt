@@ -11,6 +11,7 @@ ghost use Rattle.record.specs.Sound.{Sound};
 use children::resurvey;
 use children::survey;
 use parts::find_picks;
+use parts::find_unused;
 use parts::lowest_wrong_word;
 use parts::states_before;
 use parts::states_of;
@@ -56,13 +57,15 @@ fn check_steps(
     let mut picks = [0u8; 256];
     let mut kept = [0u8; 256];
     let mut new = [0u8; 256];
+    let mut unused = [0u32; 256];
     survey(table, n, ranks, &idle[..n], &mut sets);
+    find_unused(table, n, &mut unused);
     let mut bad_step = 0;
     let mut bad_plan = 0;
     let mut i = 0;
     'search: while i < steps {
         let words = words_of(record, n, i);
-        let wrong = lowest_wrong_word(words, n);
+        let wrong = lowest_wrong_word(table, &unused, words, n);
         let old = states_before(&idle, record, n, i);
         let shown = states_of(record, n, i);
         find_picks(table, n, ranks, old, shown, &mut picks, &mut kept);

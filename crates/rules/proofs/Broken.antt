@@ -1,6 +1,6 @@
 -- What demand 3's last rules rule out: for each of them states, or states before and after a step, that break it, proved to break it,
--- under a sequential plan (body 1) and under an any-order one (3). And picks that words may not hold explain nothing. So that none of
--- these definitions can lose a part unseen. Assumes nothing.
+-- under a sequential plan (body 1), an any-order one (3), on abort (5) and of if-then-else (8). And picks that words may not hold explain
+-- nothing. So that none of these definitions can lose a part unseen. Assumes nothing.
 use Prim.Native.Nat.{ℕ, zero, suc, _<_}
 use native.Mathlib.Omega.{arith}
 use mathlib.Core.Bool.{false, true≢false}
@@ -44,6 +44,14 @@ two-of-a-sequential-plan rule = let same = rule 0 1 2 tt (child-1 1) (child-2 1)
 pub two-of-an-any-order-plan : AtMostOne (pair 3) (states 455) → ⊥
 unfolding T1Of states stateAt
 two-of-an-any-order-plan rule = let same = rule 0 1 2 tt (child-1 3) (child-2 3) tt tt in omega arith
+
+pub two-of-an-on-abort-plan : AtMostOne (pair 5) (states 444) → ⊥
+unfolding T1Of states stateAt
+two-of-an-on-abort-plan rule = let same = rule 0 1 2 tt (child-1 5) (child-2 5) tt tt in omega arith
+
+pub two-of-an-if-then-else-plan : AtMostOne (pair 8) (states 454) → ⊥
+unfolding T1Of states stateAt
+two-of-an-if-then-else-plan rule = let same = rule 0 1 2 tt (child-1 8) (child-2 8) tt tt in omega arith
 
 -- whatever the body: a child that is Activated while its parent is Suspended
 pub activated-under-suspended : (body : ℕ) → OnlyWhileParent (pair body) (states 540) → ⊥

@@ -1,4 +1,5 @@
 -- Laws of the definitions, for the proofs of this crate and of those above it.
+pub mod Bodies
 pub mod Codes
 pub mod Digits
 pub mod Least

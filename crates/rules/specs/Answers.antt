@@ -1,5 +1,5 @@
--- Document 01, 'Answer numbers': the number and place of each refusal, the test behind each, their order in each call, and what
--- each call answers and leaves. Assumes nothing.
+-- Document 01, 'Answer numbers', as document 02 (i) widens them: the number and place of each refusal, the test behind each, their order in
+-- each call, and what each call answers and leaves. Assumes nothing.
 use Prim.Native.Nat.{ℕ, zero, suc, _+_, _*_, _-_, _%_, _^_, _<_}
 use mathlib.Core.Bool.{Bool, true, false, cond, not, _&&_, _||_, Bool·beq}
 use mathlib.Core.Path.{_≡_}
@@ -13,7 +13,8 @@ use Rattle.rules.specs.Table.{
   planCount,
   entry,
   bodyOf,
-  isLeaf,
+  isBody,
+  ofTwo,
   retryAborted,
   waitForOptional,
   named,
@@ -29,6 +30,8 @@ use Rattle.rules.specs.Step.{step}
 use Rattle.rules.specs.HandedIn.{badState}
 use Rattle.rules.specs.Rest.{leastRest, statesAt}
 use Rattle.rules.specs.Record.{stepSize, stepCount, wordsOf, ExplainedFirst}
+use Rattle.rules.specs.declared.Body.{Body}
+use Rattle.rules.specs.declared.Body.the-variants.{Leaf}
 use Rattle.rules.specs.declared.PlanEntry.{PlanEntry}
 use Rattle.rules.specs.declared.Place.{Place}
 use Rattle.rules.specs.declared.Refusal.{Refusal}
@@ -102,10 +105,10 @@ refuseAt why (At p) = Refused (why p)
 abbrev pub wrongMark : List ℕ → List ℕ → Bool
 wrongMark mark s = not (same (take 3 s) mark)
 
--- 7: the body is above 4, or there is an unused bit: byte 3 has three bits, bytes 4 to 6 have six
+-- 7: the body is above 8, or there is an unused bit: byte 3 has three bits, bytes 4 to 6 have six
 unfoldable pub undefinedEntry : PlanEntry → Bool
 undefinedEntry e =
-    ltb 4 (e .body)
+    ltb 8 (e .body)
     || leb (2 ^ 3) (e .flags)
     || leb (2 ^ 6) (e .present)
     || leb (2 ^ 6) (e .manual)
@@ -115,27 +118,32 @@ undefinedEntry e =
 abbrev pub strayAt : PlanEntry → ℕ → Bool
 strayAt e k = (isSet k (e .manual) || isSet k (e .overridable)) && not (isSet k (e .present))
 
--- 8, of plan p with so many children: body against children (leaf exactly when there are none); manual or overridable on an absent
--- condition; root named; leaf with m or flag bits 0, 1
-unfoldable pub unfitEntry : ℕ → ℕ → PlanEntry → Bool
-unfitEntry p childCount e =
-    let leaf : Bool = isLeaf (bodyOf e) in
+-- body against children (leaf exactly when there are none); manual or overridable on an absent condition; root named; leaf with m or
+-- flag bits 0, 1
+abbrev pub unfitAny : ℕ → ℕ → PlanEntry → Bool
+unfitAny p childCount e =
+    let leaf : Bool = isBody Leaf (bodyOf e) in
     not (Bool·beq leaf (eqb childCount 0))
     || some (strayAt e) (map bitOf conditions)
     || eqb p 0 && named e
     || leaf && (not (eqb (e .wait) 0) || retryAborted e || waitForOptional e)
 
--- 12, of a word whose pick is allowed or not: an unused bit, a wrong pick, or filter or setup satisfied but not satisfiable
-abbrev pub wrongWordIf : Bool → ℕ → Bool
-wrongWordIf allowed x = otherBits x || not allowed || contradicts x
+-- a body of two children with another number of them, or with retry-aborted
+abbrev pub unfitTwo : ℕ → PlanEntry → Bool
+unfitTwo childCount e = ofTwo (bodyOf e) && (not (eqb childCount 2) || retryAborted e)
+
+-- 8, of plan p with so many children
+unfoldable pub unfitEntry : ℕ → ℕ → PlanEntry → Bool
+unfitEntry p childCount e = unfitAny p childCount e || unfitTwo childCount e
+
+-- 12, by the plan's body and whether the pick is allowed: an unused bit, a wrong pick, or filter, setup or if-then-else satisfied but
+-- not satisfiable
+abbrev pub wrongWordIf : Body → Bool → ℕ → Bool
+wrongWordIf body allowed x = otherBits body x || not allowed || contradicts x
 
 -- 12, of a plan with this entry and so many children
 unfoldable pub wrongWord : PlanEntry → ℕ → ℕ → Bool
-wrongWord e childCount x = wrongWordIf (pickAllowed (bodyOf e) childCount (pickOf x)) x
-
--- 12 in a record, of plan p: any pick bit is wrong
-unfoldable pub badRecordWord : List ℕ → ℕ → Bool
-badRecordWord w p = wrongWordIf (eqb (pickOf (word w p)) 0) (word w p)
+wrongWord e childCount x = wrongWordIf (bodyOf e) (pickAllowed (bodyOf e) childCount (pickOf x)) x
 
 module _ (t : List ℕ) where
   -- the parent rule is broken: plan 0's parent is 65535, any other's is the plan before it or an ancestor of that one
@@ -199,6 +207,10 @@ module _ (t : List ℕ) where
   unfolding children wrongWord
   badWord w p = wrongWord (entry t p) (length (children t p)) (word w p)
 
+  -- 12 in a record: any pick bit is wrong
+  unfoldable pub badRecordWord : List ℕ → ℕ → Bool
+  badRecordWord w p = wrongWordIf (bodyOf (entry t p)) (eqb (pickOf (word w p)) 0) (word w p)
+
   -- 10 to 12
   unfoldable pub lentCheck : List ℕ → List ℕ → Outcome
   unfolding badState badWord
@@ -253,7 +265,7 @@ module _ (t r : List ℕ) where
   -- 12 in step i
   unfoldable pub wordsCheck : ℕ → Outcome
   unfolding badRecordWord
-  wordsCheck i = refuseAt (Word (suc i)) (least (badRecordWord (wordsOf t r i)) (planCount t))
+  wordsCheck i = refuseAt (Word (suc i)) (least (badRecordWord t (wordsOf t r i)) (planCount t))
 
   -- step i passes: its words do, and some picks explain all its states
   pub record StepPasses (i : ℕ) : Type 0 where

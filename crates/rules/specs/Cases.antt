@@ -1,6 +1,6 @@
--- Document 01, 'Small protocols to try': the lines marked P, in their order, then some that are not, then a few rows of our own; one
--- table, and one theorem that all its rows hold. A row of a step or a run goes through the whole call, checks 1 to 12 included.
--- Assumes nothing.
+-- Document 01, 'Small protocols to try': the lines marked P, in their order, then some that are not, then rows of our own, with those of
+-- document 02 (i) among them; one table, and one theorem that all its rows hold. A row of a step or a run goes through the whole call, checks
+-- 1 to 12 included. Assumes nothing.
 use Prim.Native.Nat.{ℕ, zero, suc, _+_, _*_, _/_, _%_, _^_}
 use Prim.Native.String.{String}
 use mathlib.Core.Bool.{Bool, true, false, _&&_}
@@ -16,11 +16,13 @@ use Rattle.rules.specs.Words.{holds, satisfiable}
 use Rattle.rules.specs.Step.{
   move,
   tooManyLost,
+  allEnded,
   childrenComplete,
   firstNotDone,
   gateOpen,
   mayActivate,
   chosen,
+  due,
   orders,
   stepFirst,
   stepBy,
@@ -31,6 +33,7 @@ use Rattle.rules.specs.HandedIn.{badState}
 use Rattle.rules.specs.Rest.{after, leastRest}
 use Rattle.rules.specs.Answers.{
   place,
+  isDone,
   _andThen_,
   refuseIf,
   refuseAt,
@@ -91,36 +94,45 @@ unordered : List ℕ
 unfolding T1Of
 unordered = T1Of 4 0 0 1 0x20
 
--- a table of n plans with an unordered root, its flags and conditions as given, and then the other plans' entries
-tableOf : ℕ → ℕ → ℕ → List ℕ → List ℕ
-tableOf n flags present others =
+-- a table of n plans, the root's body, flags and conditions as given, and then the other plans' entries
+tableOf : ℕ → ℕ → ℕ → ℕ → List ℕ → List ℕ
+tableOf n body flags present others =
     0x41 ∷ 0x50 ∷ 0x54 ∷ 0x01 ∷ 0x00 ∷ n ∷ 0x00 ∷ 0x00
-    ∷ 0xFF ∷ 0xFF ∷ 0x04 ∷ flags ∷ present ∷ 0x00 ∷ 0x00 ∷ 0x00
+    ∷ 0xFF ∷ 0xFF ∷ body ∷ flags ∷ present ∷ 0x00 ∷ 0x00 ∷ 0x00
     ∷ others
 
--- the entry of a plan with this parent and body and nothing else, before others
-entryUnder : ℕ → ℕ → List ℕ → List ℕ
-entryUnder parent body others = parent ∷ 0x00 ∷ body ∷ 0x00 ∷ 0x00 ∷ 0x00 ∷ 0x00 ∷ 0x00 ∷ others
+-- the entry of a plan with this parent, body and conditions and nothing else, before others
+entryUnder : ℕ → ℕ → ℕ → List ℕ → List ℕ
+entryUnder parent body present others = parent ∷ 0x00 ∷ body ∷ 0x00 ∷ present ∷ 0x00 ∷ 0x00 ∷ 0x00 ∷ others
 
 -- a chain of three: a root with retry-aborted and complete present, a sequential plan, a leaf
 chain : List ℕ
 unfolding tableOf entryUnder
-chain = tableOf 3 1 0x20 (entryUnder 0 1 (entryUnder 1 0 []))
+chain = tableOf 3 4 1 0x20 (entryUnder 0 1 0 (entryUnder 1 0 0 []))
 
--- a root with k leaves
-leaves : ℕ → List ℕ
+-- k leaves with these conditions under a root, and an unordered root with k leaves
+leaves : ℕ → ℕ → List ℕ
 unfolding entryUnder
-leaves zero = []
-leaves (suc k) = entryUnder 0 0 (leaves k)
+leaves present zero = []
+leaves present (suc k) = entryUnder 0 0 present (leaves present k)
 
 star : ℕ → List ℕ
 unfolding tableOf leaves
-star k = tableOf (suc k) 0 0 (leaves k)
+star k = tableOf (suc k) 4 0 0 (leaves 0 k)
+
+-- a root of the body, its flags as given, with two leaves, and with three; all complete when told to
+two : ℕ → ℕ → List ℕ
+unfolding tableOf leaves
+two body flags = tableOf 3 body flags 0x20 (leaves 0x20 2)
+
+three : ℕ → List ℕ
+unfolding tableOf leaves
+three body = tableOf 4 body 0 0x20 (leaves 0x20 3)
 
 -- two leaves, and a child of the first behind the second: its parent is no ancestor of the plan before it
 crossed : List ℕ
 unfolding tableOf entryUnder
-crossed = tableOf 4 0 0 (entryUnder 0 4 (entryUnder 0 0 (entryUnder 1 0 [])))
+crossed = tableOf 4 4 0 0 (entryUnder 0 4 0 (entryUnder 0 0 0 (entryUnder 1 0 0 [])))
 
 -- three states as document 01 writes them (000 is the number 0), and three words
 unfoldable pub states : ℕ → List ℕ
@@ -138,7 +150,7 @@ unfolding words
 idle = words 0 0 0
 
 pub data Row : Type 0 where
-  -- one step: table, states, words, new states
+  -- one step that is done: table, states, words, new states
   rowStep : List ℕ → ℕ → List ℕ → ℕ → Row
   -- a run from the states under a budget: rested after so many steps, with these states
   rowRests : List ℕ → ℕ → ℕ → ℕ → ℕ → Row
@@ -174,7 +186,7 @@ isRefused number plan (Refused why) =
 
 holdsIn : Row → Bool
 unfolding states words idle isRested isMoving isAccepted isRefused
-holdsIn (rowStep t from w to) = same (stepStates t (states from) w) (states to)
+holdsIn (rowStep t from w to) = isDone (stepAnswer t (states from) w) && same (stepStates t (states from) w) (states to)
 holdsIn (rowRests t from budget k to) =
     isRested k (runAnswer t (states from) idle budget) && same (runStates t (states from) idle budget) (states to)
 holdsIn (rowMoves t from budget to) =
@@ -261,6 +273,8 @@ ourMoves =
     -- wait-for-optional: one child is enough for the root, but it waits for the other; without the flag it completes
     ∷ rowStep (T1With 2 0 1 32) 464 idle 464
     ∷ rowStep (T1With 0 0 1 32) 464 idle 667
+    -- and an Inactive child is waited for, whatever its sibling
+    ∷ rowStep (sequential 2 1) 460 idle 461
     -- too many are lost: a Rejected child counts as an Aborted one does
     ∷ rowStep T1 483 idle 788
     -- sequential: the first child not done gets every order, the second none; the first is done when Completed, Rejected, or Aborted
@@ -280,6 +294,99 @@ ourMoves =
     ∷ rowStep unordered 430 idle 441
     ∷ []
 
+-- document 02 (i): moves under bodies 5 to 8
+badTurns : List Row
+unfolding T1Of two words idle
+badTurns =
+    -- on abort: the first child is considered; the second is not while the first runs or is Suspended, nor when it has completed, and is
+    -- once it is Aborted, and then goes on
+    rowStep (two 5 0) 400 idle 410
+    ∷ rowStep (two 5 0) 440 idle 440
+    ∷ rowStep (two 5 0) 450 idle 440
+    ∷ rowStep (two 5 0) 460 idle 460
+    ∷ rowStep (two 5 0) 480 idle 480
+    ∷ rowStep (two 5 0) 470 idle 471
+    ∷ rowStep (two 5 0) 471 idle 472
+    ∷ rowStep (two 5 0) 472 idle 473
+    ∷ rowStep (two 5 0) 473 idle 474
+    -- on suspend: the second is considered beside a Suspended first, and goes on though that is reactivated or has completed; not beside
+    -- one in another state
+    ∷ rowStep (two 6 0) 450 idle 441
+    ∷ rowStep (two 6 0) 441 idle 442
+    ∷ rowStep (two 6 0) 461 idle 462
+    ∷ rowStep (two 6 0) 430 idle 440
+    ∷ rowStep (two 6 0) 440 idle 440
+    ∷ rowStep (two 6 0) 460 idle 460
+    ∷ rowStep (two 6 0) 470 idle 470
+    ∷ rowStep (two 6 0) 480 idle 480
+    -- on abort or suspend: beside either
+    ∷ rowStep (two 7 0) 450 idle 441
+    ∷ rowStep (two 7 0) 441 idle 442
+    ∷ rowStep (two 7 0) 470 idle 471
+    ∷ rowStep (two 7 0) 430 idle 440
+    ∷ rowStep (two 7 0) 440 idle 440
+    ∷ rowStep (two 7 0) 460 idle 460
+    ∷ rowStep (two 7 0) 480 idle 480
+    -- if-then-else: the second where bit 21 is clear, none yet where it is set alone, the first where both are; what is Ready is activated,
+    -- and the other is no longer considered
+    ∷ rowStep (two 8 0) 400 idle 401
+    ∷ rowStep (two 8 0) 400 (words (2 * 2 ^ 20) 0 0) 400
+    ∷ rowStep (two 8 0) 400 (words (3 * 2 ^ 20) 0 0) 410
+    ∷ rowStep (two 8 0) 403 idle 404
+    ∷ rowStep (two 8 0) 403 (words (3 * 2 ^ 20) 0 0) 404
+    ∷ rowStep (two 8 0) 430 idle 440
+    -- wait-for-optional, and complete (32) on plan 0: an Inactive child counts as ended beside an ended one
+    ∷ rowStep (two 5 2) 460 (words 32 0 0) 660
+    ∷ rowStep (two 6 2) 460 (words 32 0 0) 660
+    ∷ rowStep (two 7 2) 460 (words 32 0 0) 660
+    ∷ rowStep (two 8 2) 460 (words 32 0 0) 660
+    ∷ rowStep (two 8 2) 406 (words 32 0 0) 606
+    -- but the second after an aborted first does not, on abort and on abort or suspend
+    ∷ rowStep (two 5 2) 470 (words 32 0 0) 471
+    ∷ rowStep (two 7 2) 470 (words 32 0 0) 471
+    ∷ rowStep (two 6 2) 470 (words 32 0 0) 670
+    ∷ rowStep (two 8 2) 470 (words 32 0 0) 670
+    -- it does once the second has ended too; two Inactive children count as nothing, and no child that is under way counts
+    ∷ rowStep (two 5 2) 476 (words 32 0 0) 676
+    ∷ rowStep (two 7 2) 476 (words 32 0 0) 676
+    ∷ rowStep (two 8 2) 400 (words (32 + 2 * 2 ^ 20) 0 0) 400
+    ∷ rowStep (two 5 2) 474 (words 32 0 0) 474
+    ∷ rowStep (two 6 2) 464 (words 32 0 0) 464
+    ∷ rowStep (two 6 2) 446 (words 32 0 0) 446
+    ∷ rowStep (two 6 2) 466 (words 32 0 0) 666
+    -- loss is as ever: both named, and one is asked for, or both
+    ∷ rowStep (T1Of 5 0 0 1 0x20) 470 idle 471
+    ∷ rowStep (T1Of 5 0 0 2 0x20) 470 idle 770
+    ∷ []
+
+-- and refusals
+badTurnsRefused : List Row
+unfolding two three words idle
+badTurnsRefused =
+    -- 8: three children, retry-aborted
+    rowRefuses (three 5) 000 idle 8 0
+    ∷ rowRefuses (two 5 1) 000 idle 8 0
+    ∷ rowRefuses (two 8 1) 000 idle 8 0
+    -- 11: the second child beside a first that runs, has completed, is Rejected, is Ready, or has begun or ended too
+    ∷ rowRefuses (two 5 0) 441 idle 11 2
+    ∷ rowRefuses (two 5 0) 461 idle 11 2
+    ∷ rowRefuses (two 5 0) 481 idle 11 2
+    ∷ rowRefuses (two 6 0) 431 idle 11 2
+    ∷ rowRefuses (two 6 0) 481 idle 11 2
+    ∷ rowRefuses (two 7 0) 431 idle 11 2
+    ∷ rowRefuses (two 7 0) 481 idle 11 2
+    ∷ rowRefuses (two 8 0) 411 idle 11 2
+    ∷ rowRefuses (two 8 0) 461 idle 11 2
+    ∷ rowRefuses (two 8 0) 471 idle 11 2
+    ∷ rowRefuses (two 8 0) 481 idle 11 2
+    -- 12: bit 20 without bit 21, either bit on a plan of another body, be it under body 8; a bit that none may have
+    ∷ rowRefuses (two 8 0) 000 (words (2 ^ 20) 0 0) 12 0
+    ∷ rowRefuses (two 4 0) 000 (words (2 * 2 ^ 20) 0 0) 12 0
+    ∷ rowRefuses (two 8 0) 000 (words 0 (3 * 2 ^ 20) 0) 12 1
+    ∷ rowRefuses (two 8 0) 000 (words (2 ^ 22) 0 0) 12 0
+    ∷ rowRefuses (two 8 0) 000 (words (2 ^ 23) 0 0) 12 0
+    ∷ []
+
 -- rows of our own: refusals
 ourRefusals : List Row
 unfolding T1 T1With T1Of sequential crossed star words idle
@@ -290,7 +397,7 @@ ourRefusals =
     ∷ rowRefuses (take 3 T1 ++ 2 ∷ drop 4 T1) 000 idle 3 0
     ∷ rowRefuses crossed 000 idle 6 3
     -- 7: a body, an unused flag, an unused condition. 8: a leaf with children, a root that is named
-    ∷ rowRefuses (T1Of 5 0 0 2 32) 000 idle 7 0
+    ∷ rowRefuses (T1Of 9 0 0 2 32) 000 idle 7 0
     ∷ rowRefuses (T1With 8 0 2 32) 000 idle 7 0
     ∷ rowRefuses (T1With 0 64 2 32) 000 idle 7 0
     ∷ rowRefuses (T1Of 0 0 0 0 32) 000 idle 8 0
@@ -331,13 +438,13 @@ ourShows =
     ∷ []
 
 pub table : List Row
-unfolding marked unmarked ourMoves ourRefusals ourShows
-table = marked ++ unmarked ++ ourMoves ++ ourRefusals ++ ourShows
+unfolding marked unmarked ourMoves badTurns badTurnsRefused ourRefusals ourShows
+table = marked ++ unmarked ++ ourMoves ++ badTurns ++ badTurnsRefused ++ ourRefusals ++ ourShows
 
 pub rowsHold : allHold table ≡ true
 unfolding
     allHold table T1Of states leaves leastFrom highest stateAt childrenBefore children rank isOrIsAbove holds satisfiable
-    move tooManyLost childrenComplete firstNotDone gateOpen mayActivate chosen orders stepFirst stepBy stepUnder step badState
+    move tooManyLost allEnded childrenComplete firstNotDone gateOpen mayActivate chosen due orders stepFirst stepBy stepUnder step badState
     after leastRest badParent undefinedEntry unfitEntry undefinedByte unfit badWait _andThen_ refuseIf refuseAt headerCheck
     tableCheck badWord callCheck tableVerdict runAnswer runStates lastDescendant subTree decimalTo
 rowsHold = refl

@@ -1,23 +1,20 @@
 -- Demand 3's last rules, as what is promised of each step of an accepted record, s being the states before it and shown those after
 -- it. Assumes nothing.
 use Prim.Native.Nat.{ℕ, _<_}
-use mathlib.Core.Bool.{Bool, true, false}
+use mathlib.Core.Bool.{Bool, _||_}
 use mathlib.Core.Path.{_≡_}
 use mathlib.Core.Logic.{_⊎_}
 use mathlib.Core.List.{List}
 use lib.Dec.{T}
 use Rattle.rules.specs.States.{stateAt, inExecution, ended}
-use Rattle.rules.specs.Table.{planCount, entry, bodyOf, isChild, isOrIsAbove}
+use Rattle.rules.specs.Table.{planCount, entry, bodyOf, isBody, isChild, isOrIsAbove}
 use Rattle.rules.specs.declared.Body.{Body}
-use Rattle.rules.specs.declared.Body.the-variants.{Leaf, Sequential, Parallel, AnyOrder, Unordered}
+use Rattle.rules.specs.declared.Body.the-variants.{Sequential, AnyOrder, OnAbort, IfThenElse}
 use Rattle.rules.specs.declared.PlanState.the-variants.{Considered, Activated, Aborted}
 
+-- bodies of which at most one sub plan is in execution
 abbrev pub oneAtATime : Body → Bool
-oneAtATime Leaf = false
-oneAtATime Sequential = true
-oneAtATime Parallel = false
-oneAtATime AnyOrder = true
-oneAtATime Unordered = false
+oneAtATime body = isBody Sequential body || isBody AnyOrder body || isBody OnAbort body || isBody IfThenElse body
 
 -- p is a sub plan of q
 pub record SubPlan (t : List ℕ) (q p : ℕ) : Type 0 where
@@ -30,7 +27,7 @@ pub record Retried (t s shown : List ℕ) (a p : ℕ) : Type 0 where
   pub was : stateAt s a ≡ Aborted
   pub now : stateAt shown a ≡ Considered
 
--- of the sub plans of a sequential or any-order plan at most one is in execution
+-- of the sub plans of a sequential, any-order, on abort or if-then-else plan at most one is in execution
 abbrev pub AtMostOne : List ℕ → List ℕ → Type 0
 AtMostOne t shown =
     (q c d : ℕ) → T (oneAtATime (bodyOf (entry t q))) → SubPlan t q c → SubPlan t q d → T (inExecution (stateAt shown c))

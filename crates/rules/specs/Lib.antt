@@ -1,4 +1,5 @@
--- Document 01 as definitions: what a reader must believe, in its order and its words. Only the rows of the last file are proved here.
+-- Document 01, and what document 02 adds to it, as definitions: what a reader must believe, in their order and their words. Only the rows
+-- of the last file are proved here.
 --
 -- How to read them. Lines that begin with `use` say where names come from: skip them. `-- ..` is a comment.
 --   `f : A → B → C` says what f takes and gives; the lines under it define it. `f a b` is f of a and b, and binds tighter than any

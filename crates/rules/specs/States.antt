@@ -63,3 +63,7 @@ inExecution state = oneOf (Activated ∷ Suspended ∷ []) state
 
 abbrev pub ended : PlanState → Bool
 ended state = oneOf (Completed ∷ Aborted ∷ Rejected ∷ []) state
+
+-- 4, 5, 6 or 7: the plan was activated, and has been neither reset nor retried since
+abbrev pub wasActivated : PlanState → Bool
+wasActivated state = oneOf (Activated ∷ Suspended ∷ Completed ∷ Aborted ∷ []) state

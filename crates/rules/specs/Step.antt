@@ -1,15 +1,39 @@
--- Document 01, 'One step': what children's states mean to a plan, what each body orders, one move, one step. Assumes nothing.
+-- Document 01, 'One step', with the bodies of document 02 (i): what children's states mean to a plan, what each body orders, one move, one
+-- step. Assumes nothing.
 use Prim.Native.Nat.{ℕ, zero, suc}
 use mathlib.Core.Bool.{Bool, true, false, cond, not, _&&_, _||_}
 use mathlib.Core.List.{List, [], _∷_, _++_}
 use lib.ListN.{getD}
 use lib.Dec.{eqb}
 use Rattle.rules.specs.Lists.{all, some, first}
-use Rattle.rules.specs.States.{code, stateAt, oneOf, is, inSelection, inExecution, ended}
-use Rattle.rules.specs.Table.{planCount, parent, entry, bodyOf, retryAborted, waitForOptional, children, waitFor}
-use Rattle.rules.specs.Words.{word, pickOf, holds, satisfiable}
+use Rattle.rules.specs.States.{code, stateAt, oneOf, is, inSelection, inExecution, ended, wasActivated}
+use Rattle.rules.specs.Table.{
+  planCount,
+  parent,
+  entry,
+  bodyOf,
+  isBody,
+  ofTwo,
+  retryAborted,
+  waitForOptional,
+  children,
+  firstChild,
+  secondChild,
+  waitFor,
+}
+use Rattle.rules.specs.Words.{word, pickOf, ifSatisfied, ifSatisfiable, holds, satisfiable}
 use Rattle.rules.specs.declared.Body.{Body}
-use Rattle.rules.specs.declared.Body.the-variants.{Leaf, Sequential, Parallel, AnyOrder, Unordered}
+use Rattle.rules.specs.declared.Body.the-variants.{
+  Leaf,
+  Sequential,
+  Parallel,
+  AnyOrder,
+  Unordered,
+  OnAbort,
+  OnSuspend,
+  OnAbortOrSuspend,
+  IfThenElse,
+}
 use Rattle.rules.specs.declared.PlanEntry.{PlanEntry}
 use Rattle.rules.specs.declared.Orders.{Orders}
 use Rattle.rules.specs.declared.Condition.the-variants.{Filter, Setup, Suspend, Reactivate, Abort, Complete}
@@ -53,30 +77,85 @@ move parent o e x lost mayComplete old =
 abbrev pub none : Orders
 none = record { considers = false; activates = false; retries = false }
 
+-- a child of two: considered when it is due (`dueOfTwo`), activated always, never retried
+abbrev pub ordersOfTwo : Bool → Orders
+ordersOfTwo isDue = record { considers = isDue; activates = true; retries = false }
+
 -- what a plan orders one child, by the plan's body: `again` is the plan's retry-aborted, `isNext` says that the child is the first
--- not done, `gate` that the parallel gate is open, `isChosen` that any-order activates this child
-abbrev pub ordersOf : Body → Bool → Bool → Bool → Bool → Orders
-ordersOf Leaf again isNext gate isChosen = none
-ordersOf Sequential again isNext gate isChosen = record { considers = isNext; activates = isNext; retries = again && isNext }
-ordersOf Parallel again isNext gate isChosen = record { considers = true; activates = gate; retries = again }
-ordersOf AnyOrder again isNext gate isChosen = record { considers = true; activates = isChosen; retries = again }
-ordersOf Unordered again isNext gate isChosen = record { considers = true; activates = true; retries = again }
+-- not done, `gate` that the parallel gate is open, `isChosen` that any-order activates this child, `isDue` that a body of two children
+-- considers this one
+abbrev pub ordersOf : Body → Bool → Bool → Bool → Bool → Bool → Orders
+ordersOf Leaf again isNext gate isChosen isDue = none
+ordersOf Sequential again isNext gate isChosen isDue = record { considers = isNext; activates = isNext; retries = again && isNext }
+ordersOf Parallel again isNext gate isChosen isDue = record { considers = true; activates = gate; retries = again }
+ordersOf AnyOrder again isNext gate isChosen isDue = record { considers = true; activates = isChosen; retries = again }
+ordersOf Unordered again isNext gate isChosen isDue = record { considers = true; activates = true; retries = again }
+ordersOf OnAbort again isNext gate isChosen isDue = ordersOfTwo isDue
+ordersOf OnSuspend again isNext gate isChosen isDue = ordersOfTwo isDue
+ordersOf OnAbortOrSuspend again isNext gate isChosen isDue = ordersOfTwo isDue
+ordersOf IfThenElse again isNext gate isChosen isDue = ordersOfTwo isDue
 
 -- a sequential plan is done with a child: Completed, Rejected, or Aborted without retry-aborted
 abbrev pub done : Bool → PlanState → Bool
 done again state = oneOf (Completed ∷ Rejected ∷ []) state || is Aborted state && not again
 
+-- Bodies of two children, by the states of the first and the second.
+
+-- the second is there for an Aborted first
+abbrev pub afterAbort : Body → Bool
+afterAbort body = isBody OnAbort body || isBody OnAbortOrSuspend body
+
+-- the second is there for a Suspended first
+abbrev pub afterSuspend : Body → Bool
+afterSuspend body = isBody OnSuspend body || isBody OnAbortOrSuspend body
+
+-- the first has taken the turn for which the second is there
+abbrev pub badTurn : Body → PlanState → Bool
+badTurn body first = afterAbort body && is Aborted first || afterSuspend body && is Suspended first
+
+-- if-then-else with the word x: while both are Inactive, the first is considered if the condition is satisfied, the second if it is not
+-- satisfiable
+abbrev pub branchTaken : ℕ → Bool → PlanState → PlanState → Bool
+branchTaken x isFirst first second =
+    is Inactive first && is Inactive second && cond isFirst (ifSatisfied x) (not (ifSatisfiable x))
+
+-- a child is considered: of if-then-else by the branch taken, of the others the first always, the second once the first has taken the
+-- turn
+abbrev pub dueOfTwo : Body → ℕ → Bool → PlanState → PlanState → Bool
+dueOfTwo body x isFirst first second =
+    cond (isBody IfThenElse body) (branchTaken x isFirst first second) (isFirst || badTurn body first)
+
+-- both count as ended: an Inactive child does when its sibling has ended, except the second after an aborted first, on abort and on
+-- abort or suspend
+abbrev pub bothEnded : Body → PlanState → PlanState → Bool
+bothEnded body first second =
+    (ended first || is Inactive first && ended second)
+    && (ended second || is Inactive second && ended first && not (afterAbort body && is Aborted first))
+
 -- The children of a plan, by the old states s.
 module _ (t s : List ℕ) where
+  -- the states of the first and the second child
+  abbrev pub stateOfFirst : ℕ → PlanState
+  stateOfFirst q = stateAt s (firstChild t q)
+
+  abbrev pub stateOfSecond : ℕ → PlanState
+  stateOfSecond q = stateAt s (secondChild t q)
+
   -- too many are lost: wait-for fails of the children that are neither Rejected nor Aborted
   unfoldable pub tooManyLost : ℕ → Bool
   tooManyLost p = not (waitFor t p (λ c. not (oneOf (Rejected ∷ Aborted ∷ []) (stateAt s c))))
 
+  -- all children are ended; of a body of two, both count as ended
+  unfoldable pub allEnded : ℕ → Bool
+  allEnded p =
+      let body : Body = bodyOf (entry t p) in
+      cond (ofTwo body) (bothEnded body (stateOfFirst p) (stateOfSecond p)) (all (λ c. ended (stateAt s c)) (children t p))
+
   -- wait-for holds of the Completed children, and, with wait-for-optional, all children are ended
   unfoldable pub childrenComplete : ℕ → Bool
+  unfolding allEnded
   childrenComplete p =
-      waitFor t p (λ c. is Completed (stateAt s c))
-      && (not (waitForOptional (entry t p)) || all (λ c. ended (stateAt s c)) (children t p))
+      waitFor t p (λ c. is Completed (stateAt s c)) && (not (waitForOptional (entry t p)) || allEnded p)
 
   -- sequential: the first child not done
   unfoldable pub firstNotDone : ℕ → ℕ
@@ -86,7 +165,7 @@ module _ (t s : List ℕ) where
   unfoldable pub gateOpen : ℕ → Bool
   gateOpen q =
       not (some (λ c. oneOf (Inactive ∷ Considered ∷ Possible ∷ []) (stateAt s c)) (children t q))
-      || some (λ c. oneOf (Activated ∷ Suspended ∷ Completed ∷ Aborted ∷ []) (stateAt s c)) (children t q)
+      || some (λ c. wasActivated (stateAt s c)) (children t q)
 
   -- any-order: no child is in execution and, with retry-aborted, none is Aborted
   unfoldable pub mayActivate : ℕ → Bool
@@ -102,12 +181,16 @@ module _ (t s : List ℕ) where
       let picked : ℕ = getD (children t q) (pick q) lowest in
       cond (is Ready (stateAt s picked)) picked lowest
 
-  -- what plan q orders its child p to do; `choice` gives the plan that each any-order plan would activate
-  unfoldable pub orders : (ℕ → ℕ) → ℕ → ℕ → Orders
-  unfolding firstNotDone gateOpen mayActivate
-  orders choice q p =
+  -- two children: plan q, whose word is x, considers its child p
+  unfoldable pub due : ℕ → ℕ → ℕ → Bool
+  due x q p = dueOfTwo (bodyOf (entry t q)) x (eqb p (firstChild t q)) (stateOfFirst q) (stateOfSecond q)
+
+  -- what plan q, whose word is x, orders its child p to do; `choice` gives the plan that each any-order plan would activate
+  unfoldable pub orders : ℕ → (ℕ → ℕ) → ℕ → ℕ → Orders
+  unfolding firstNotDone gateOpen mayActivate due
+  orders x choice q p =
       ordersOf (bodyOf (entry t q)) (retryAborted (entry t q)) (eqb p (firstNotDone q)) (gateOpen q)
-      (mayActivate q && eqb p (choice q))
+      (mayActivate q && eqb p (choice q)) (due x q p)
 
 -- what the root is ordered, as if by a parent that considers it when Inactive and activates it when Ready; nobody retries it
 abbrev pub rootOrders : Orders
@@ -121,7 +204,7 @@ module _ (t s w : List ℕ) (choice : ℕ → ℕ) where
 
   -- a parent gives orders only in a step where it was and stays Activated
   abbrev pub ordersIf : PlanState → PlanState → ℕ → ℕ → Orders
-  ordersIf parentOld parentNew q p = cond (is Activated parentOld && is Activated parentNew) (orders t s choice q p) none
+  ordersIf parentOld parentNew q p = cond (is Activated parentOld && is Activated parentNew) (orders t s (word w q) choice q p) none
 
   -- the new state of plan p, where `new` has those of the plans before it: its parent's state is read there, all else in s.
   -- The root moves as if under a parent that stays Activated, that considers it when Inactive and activates it when Ready

@@ -1,14 +1,24 @@
--- Document 01, 'Plan table': the header, a plan's eight bytes, the tree, and wait-for. Assumes nothing.
+-- Document 01, 'Plan table', with the bodies of document 02 (i): the header, a plan's eight bytes, the tree, and wait-for. Assumes nothing.
 use Prim.Native.Nat.{ℕ, zero, suc, _+_, _*_}
 use mathlib.Core.Bool.{Bool, true, false, cond, not, _&&_, _||_}
 use mathlib.Core.List.{List, [], _∷_, _++_}
 use lib.ListN.{getD, length}
 use lib.Dec.{eqb, leb}
-use Rattle.rules.specs.Lists.{count}
+use Rattle.rules.specs.Lists.{count, noPlan}
 use Rattle.rules.specs.Bytes.{byteAt, u16At, isSet}
 use Rattle.rules.specs.declared.PlanEntry.{PlanEntry}
 use Rattle.rules.specs.declared.Body.{Body}
-use Rattle.rules.specs.declared.Body.the-variants.{Leaf, Sequential, Parallel, AnyOrder, Unordered}
+use Rattle.rules.specs.declared.Body.the-variants.{
+  Leaf,
+  Sequential,
+  Parallel,
+  AnyOrder,
+  Unordered,
+  OnAbort,
+  OnSuspend,
+  OnAbortOrSuspend,
+  IfThenElse,
+}
 use Rattle.rules.specs.declared.Condition.{Condition}
 use Rattle.rules.specs.declared.Condition.the-variants.{Filter, Setup, Suspend, Reactivate, Abort, Complete}
 
@@ -33,23 +43,33 @@ entry t p =
       wait = byteAt t (at + 7);
     }
 
--- byte 2: the body
+-- byte 2: the body; 5 to 8 are document 02 (i)'s
+abbrev pub bodyNumber : Body → ℕ
+bodyNumber Leaf = 0
+bodyNumber Sequential = 1
+bodyNumber Parallel = 2
+bodyNumber AnyOrder = 3
+bodyNumber Unordered = 4
+bodyNumber OnAbort = 5
+bodyNumber OnSuspend = 6
+bodyNumber OnAbortOrSuspend = 7
+bodyNumber IfThenElse = 8
+
+-- the body of a number; one above 8 is no body's: it counts as the last, and check 7 refuses it before it is read
+abbrev pub numbered : ℕ → Body
+numbered k =
+    getD (Leaf ∷ Sequential ∷ Parallel ∷ AnyOrder ∷ Unordered ∷ OnAbort ∷ OnSuspend ∷ OnAbortOrSuspend ∷ []) k IfThenElse
+
 abbrev pub bodyOf : PlanEntry → Body
-bodyOf e = getD (Leaf ∷ Sequential ∷ Parallel ∷ AnyOrder ∷ []) (e .body) Unordered
+bodyOf e = numbered (e .body)
 
-abbrev pub isLeaf : Body → Bool
-isLeaf Leaf = true
-isLeaf Sequential = false
-isLeaf Parallel = false
-isLeaf AnyOrder = false
-isLeaf Unordered = false
+-- a body is the one
+abbrev pub isBody : Body → Body → Bool
+isBody y body = eqb (bodyNumber body) (bodyNumber y)
 
-abbrev pub isAnyOrder : Body → Bool
-isAnyOrder Leaf = false
-isAnyOrder Sequential = false
-isAnyOrder Parallel = false
-isAnyOrder AnyOrder = true
-isAnyOrder Unordered = false
+-- a body of two children
+abbrev pub ofTwo : Body → Bool
+ofTwo body = isBody OnAbort body || isBody OnSuspend body || isBody OnAbortOrSuspend body || isBody IfThenElse body
 
 -- byte 3: the flags
 abbrev pub retryAborted : PlanEntry → Bool
@@ -94,6 +114,13 @@ module _ (t : List ℕ) where
   unfoldable pub children : ℕ → List ℕ
   unfolding childrenBefore
   children q = childrenBefore q (planCount t)
+
+  -- of a plan with two children, the first and the second
+  abbrev pub firstChild : ℕ → ℕ
+  firstChild q = getD (children q) 0 noPlan
+
+  abbrev pub secondChild : ℕ → ℕ
+  secondChild q = getD (children q) 1 noPlan
 
   -- the rank of plan p among its siblings, counted from 0
   unfoldable pub rank : ℕ → ℕ

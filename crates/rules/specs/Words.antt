@@ -1,12 +1,13 @@
--- Document 01, 'Input words': the bits of a word, and when a condition holds or is satisfiable. Assumes nothing.
+-- Document 01, 'Input words', with bits 20 and 21 of document 02 (i): the bits of a word, and when a condition holds or is satisfiable.
+-- Assumes nothing.
 use Prim.Native.Nat.{ℕ, _+_, _*_}
 use mathlib.Core.Bool.{Bool, true, false, cond, not, _&&_, _||_}
 use mathlib.Core.List.{List}
 use lib.Dec.{eqb, ltb}
 use Rattle.rules.specs.Bytes.{u32At, bits, isSet}
-use Rattle.rules.specs.Table.{bitOf}
+use Rattle.rules.specs.Table.{isBody, bitOf}
 use Rattle.rules.specs.declared.Body.{Body}
-use Rattle.rules.specs.declared.Body.the-variants.{Leaf, Sequential, Parallel, AnyOrder, Unordered}
+use Rattle.rules.specs.declared.Body.the-variants.{AnyOrder, IfThenElse}
 use Rattle.rules.specs.declared.PlanEntry.{PlanEntry}
 use Rattle.rules.specs.declared.Condition.{Condition}
 use Rattle.rules.specs.declared.Condition.the-variants.{Filter, Setup, Suspend, Reactivate, Abort, Complete}
@@ -21,22 +22,29 @@ pickOf x = bits 24 6 x
 
 -- a pick that a plan with so many children may make: a child's rank if its body is any-order, else 0
 abbrev pub pickAllowed : Body → ℕ → ℕ → Bool
-pickAllowed Leaf childCount pick = eqb pick 0
-pickAllowed Sequential childCount pick = eqb pick 0
-pickAllowed Parallel childCount pick = eqb pick 0
-pickAllowed AnyOrder childCount pick = ltb pick childCount
-pickAllowed Unordered childCount pick = eqb pick 0
+pickAllowed body childCount pick = cond (isBody AnyOrder body) (ltb pick childCount) (eqb pick 0)
 
--- other bits: 20 to 23, 30 and 31
-abbrev pub otherBits : ℕ → Bool
-otherBits x = not (eqb (bits 20 4 x) 0) || not (eqb (bits 30 2 x) 0)
+-- of a plan whose body is if-then-else: its condition is satisfied (bit 20), and still can be (bit 21)
+abbrev pub ifSatisfied : ℕ → Bool
+ifSatisfied x = isSet 20 x
 
--- filter or setup satisfied but not satisfiable, whether or not the plan has it
+abbrev pub ifSatisfiable : ℕ → Bool
+ifSatisfiable x = isSet 21 x
+
+-- other bits: 22, 23, 30 and 31, and 20 and 21 unless the body is if-then-else
+abbrev pub otherBits : Body → ℕ → Bool
+otherBits body x =
+    not (eqb (bits 22 2 x) 0)
+    || not (eqb (bits 30 2 x) 0)
+    || not (isBody IfThenElse body) && (ifSatisfied x || ifSatisfiable x)
+
+-- of filter and setup: satisfied but not satisfiable, by the two bits alone
 abbrev pub satisfiedOnly : Condition → ℕ → Bool
 satisfiedOnly c x = isSet (bitOf c) x && not (isSet (6 + bitOf c) x)
 
+-- filter, setup or if-then-else is so, whether or not the plan has it
 abbrev pub contradicts : ℕ → Bool
-contradicts x = satisfiedOnly Filter x || satisfiedOnly Setup x
+contradicts x = satisfiedOnly Filter x || satisfiedOnly Setup x || ifSatisfied x && not (ifSatisfiable x)
 
 -- a present condition, at bit k: (pattern satisfied, and triggered if it is manual) or (overridable and overridden)
 abbrev pub presentHolds : ℕ → PlanEntry → ℕ → Bool

@@ -1,11 +1,11 @@
-// What a plan, its table entry and its input word are, and what every call answers: the words of document 01.
+// What a plan, its table entry and its input word are, and what every call answers: the words of documents 01 and 02.
 // The rules themselves are the definitions of specs/; each function here meets one of them. Assumes nothing.
 ghost use mathlib.Core.Path.{_≡_};
 ghost use Prim.Native.Nat.{_<_};
 ghost use lib.Count.{ones};
 ghost use Rattle.rules.specs.Bytes.{isSet};
-ghost use Rattle.rules.specs.States.{code, stateOf, is, inSelection, inExecution, ended};
-ghost use Rattle.rules.specs.Table.{bodyOf, isLeaf, isAnyOrder, retryAborted, waitForOptional, named, bitOf, enough};
+ghost use Rattle.rules.specs.States.{code, stateOf, is, inSelection, inExecution, ended, wasActivated};
+ghost use Rattle.rules.specs.Table.{bodyNumber, bodyOf, isBody, ofTwo, retryAborted, waitForOptional, named, bitOf, enough};
 ghost use Rattle.rules.specs.Answers.{placed, place};
 ghost use Rattle.rules.specs.Words.{pickOf, holds, satisfiable};
 
@@ -76,7 +76,7 @@ impl PlanState {
         }
     }
 
-    // Whether the state is another.
+    // Whether this is the state `other`.
     pub fn is(self, other: PlanState) -> bool
         ensures { λ r. ⌜ r ≡ is other self ⌝ }
     {
@@ -106,6 +106,14 @@ impl PlanState {
         let b = self.to_byte();
         (PlanState::COMPLETED <= b) & (b <= PlanState::REJECTED)
     }
+
+    // Whether the plan is Activated, Suspended, Completed or Aborted.
+    pub fn was_activated(self) -> bool
+        ensures { λ r. ⌜ r ≡ wasActivated self ⌝ }
+    {
+        let b = self.to_byte();
+        (PlanState::ACTIVATED <= b) & (b <= PlanState::ABORTED)
+    }
 }
 
 // The body of a plan: how it orders its children about.
@@ -115,33 +123,42 @@ pub enum Body {
     Parallel,
     AnyOrder,
     Unordered,
+    OnAbort,
+    OnSuspend,
+    OnAbortOrSuspend,
+    IfThenElse,
 }
 
 impl Body {
-    // Whether a plan with this body has no children.
-    pub fn is_leaf(self) -> bool
-        ensures { λ r. ⌜ r ≡ isLeaf self ⌝ }
+    // The number of the body.
+    fn number(self) -> u8
+        ensures { λ r. ⌜ r ≡ bodyNumber self ⌝ }
     {
         match self {
-            Body::Leaf => true,
-            Body::Sequential => false,
-            Body::Parallel => false,
-            Body::AnyOrder => false,
-            Body::Unordered => false,
+            Body::Leaf => 0,
+            Body::Sequential => 1,
+            Body::Parallel => 2,
+            Body::AnyOrder => 3,
+            Body::Unordered => 4,
+            Body::OnAbort => 5,
+            Body::OnSuspend => 6,
+            Body::OnAbortOrSuspend => 7,
+            Body::IfThenElse => 8,
         }
     }
 
-    // Whether a plan with this body activates one child after the other, in any order.
-    pub fn is_any_order(self) -> bool
-        ensures { λ r. ⌜ r ≡ isAnyOrder self ⌝ }
+    // Whether this is the body `other`.
+    pub fn is(self, other: Body) -> bool
+        ensures { λ r. ⌜ r ≡ isBody other self ⌝ }
     {
-        match self {
-            Body::Leaf => false,
-            Body::Sequential => false,
-            Body::Parallel => false,
-            Body::AnyOrder => true,
-            Body::Unordered => false,
-        }
+        self.number() == other.number()
+    }
+
+    // Whether the body is one of two children: 5 to 8.
+    pub fn is_of_two(self) -> bool
+        ensures { λ r. ⌜ r ≡ ofTwo self ⌝ }
+    {
+        5 <= self.number()
     }
 }
 
@@ -221,7 +238,7 @@ impl PlanEntry {
         !is_set(self.present as u32, k) | is_set(word, 6 + k) | is_set(self.overridable as u32, k)
     }
 
-    // The plan's body. A byte above 4 is none: check 7 refuses it, and here it counts as unordered.
+    // The plan's body. A byte above 8 is none: check 7 refuses it, and here it counts as if-then-else.
     pub fn body_kind(self) -> Body
         ensures { λ r. ⌜ r ≡ bodyOf self ⌝ }
     {
@@ -231,7 +248,11 @@ impl PlanEntry {
             1 => Body::Sequential,
             2 => Body::Parallel,
             3 => Body::AnyOrder,
-            _ => Body::Unordered,
+            4 => Body::Unordered,
+            5 => Body::OnAbort,
+            6 => Body::OnSuspend,
+            7 => Body::OnAbortOrSuspend,
+            _ => Body::IfThenElse,
         }
     }
 

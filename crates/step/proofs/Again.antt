@@ -18,7 +18,7 @@ use Rattle.rules.proofs.Outcomes.{then-done, pass, pass-at, then-next}
 use Rattle.table.proofs.Lowest.{ends-here, lowest-none}
 use Rattle.demands.specs.PassesStates.{PassesStates}
 use Rattle.step.proofs.Rests.{after-passes}
-use Rattle.lent.proofs.Calls.{table-passes, lent-passes, lengths, handed-in}
+use Rattle.lent.proofs.Calls.{table-passes, lent-passes, lengths, handed-in, words-in}
 
 module _ (t s w : List ℕ) (done : callCheck t s w ≡ Done) where
   -- with the same words, other states that pass check 11 are as good
@@ -35,7 +35,7 @@ module _ (t s w : List ℕ) (done : callCheck t s w ≡ Done) where
       ∙ then-done _ _ (then-done _ _ (lent-passes t s w done))
 
   still-passes : (k : ℕ) → PassesStates t (after t s w k)
-  still-passes = after-passes t s w (table-passes t s w done) (handed-in t s w done)
+  still-passes = after-passes t s w (table-passes t s w done) (handed-in t s w done) (words-in t s w done)
 
   step-leaves : PassesStates t (stepStates t s w)
   unfolding after

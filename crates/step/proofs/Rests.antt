@@ -17,6 +17,7 @@ use Rattle.rules.specs.declared.Rest.{Rest}
 use Rattle.rules.specs.declared.Rest.the-variants.{Rested, Moving, Refused}
 use Rattle.table.proofs.Lowest.{lowest-at, lowest-none, stops-here, ends-here}
 use Rattle.demands.specs.PassesStates.{PassesStates}
+use Rattle.demands.specs.BranchesAgree.{BranchesAgree}
 use Rattle.demands.proofs.Valid.{step-passes}
 use Rattle.lent.specs.Calls.{MayMove}
 
@@ -26,18 +27,19 @@ pub record Running (t s w : List ℕ) (k : ℕ) (states : List ℕ) : Type 0 whe
   pub moved : (j : ℕ) → j < k → settled t s w j ≡ false
 
 -- what passes check 11 goes on passing it
-pub after-passes : (t s w : List ℕ) → tableCheck t ≡ outcome.Done → PassesStates t s → (k : ℕ) → PassesStates t (after t s w k)
+pub after-passes :
+    (t s w : List ℕ) → tableCheck t ≡ outcome.Done → PassesStates t s → BranchesAgree t w → (k : ℕ) → PassesStates t (after t s w k)
 unfolding after step
-after-passes t s w done passes zero = passes
-after-passes t s w done passes (suc k) =
-    step-passes t (after t s w k) w (λ q. pickOf (word w q)) done (after-passes t s w done passes k)
+after-passes t s w done passes words zero = passes
+after-passes t s w done passes words (suc k) =
+    step-passes t (after t s w k) w (λ q. pickOf (word w q)) done (after-passes t s w done passes words k) words
 
-module _ (t s w ranks names : List ℕ) (moves : MayMove t s w ranks names) where
+module _ (t s w ranks names : List ℕ) (moves : MayMove t s w ranks names) (words : BranchesAgree t w) where
   moves-after : (k : ℕ) → MayMove t (after t s w k) w ranks names
   moves-after k =
       record {
         prepared = moves .prepared;
-        passes = after-passes t s w (moves .prepared .done) (moves .passes) k;
+        passes = after-passes t s w (moves .prepared .done) (moves .passes) words k;
         words = moves .words;
       }
 

@@ -7,6 +7,7 @@ ghost use Rattle.rules.specs.Rest.{leastRest, statesAt};
 ghost use Rattle.rules.specs.Answers.{stepAnswer, stepStates, restAnswer, runAnswer, runStates};
 ghost use Rattle.table.specs.Facts.{FactsRoom};
 ghost use Rattle.lent.specs.Calls.{MayMove};
+ghost use Rattle.demands.specs.BranchesAgree.{BranchesAgree};
 ghost use Rattle.step.specs.WorkSpace.{StepRoom, RoomToStep};
 use children::resurvey;
 use children::survey;
@@ -147,7 +148,8 @@ fn settle(
     words: &[u8],
     budget: u16,
 ) -> Rest
-    requires { ⌜ MayMove (now table) (now states) (now words) (now ranks) (now names) ⌝ }
+    requires moves { ⌜ MayMove (now table) (now states) (now words) (now ranks) (now names) ⌝ }
+    requires words { ⌜ BranchesAgree (now table) (now words) ⌝ }
     ensures answer { λ r. ⌜ r
         ≡ restAnswer (now (table .entry)) (leastRest (now (table .entry)) (now (states .entry)) (now (words .entry)) budget) ⌝ }
     ensures left { λ _. ⌜ now (states .exit)

@@ -1,4 +1,4 @@
-// Reads a plan table: checks 1 to 9 of document 01, what a good table gives to those above, and the sub tree question.
+// Reads a plan table: checks 1 to 9 of documents 01 and 02, what a good table gives to those above, and the sub tree question.
 // Every function that goes over the plans costs O(n) for n plans; `climbs_to` costs O(n) over a whole table. Assumes nothing.
 ghost use mathlib.Core.Path.{_≡_};
 ghost use mathlib.Core.List.{[], _∷_, map};
@@ -18,6 +18,7 @@ use children::rank_children;
 use reading::entry_at;
 use reading::parent_at;
 use reading::u16_at;
+use rules::Body;
 use rules::Outcome;
 use rules::PlanEntry;
 use rules::Refusal;
@@ -153,7 +154,7 @@ fn lowest_bad_parent(table: &[u8], n: usize, ranks: &mut [u8], counts: &mut [u8]
 fn undefined_entry(e: PlanEntry) -> bool
     ensures { λ r. ⌜ r ≡ undefinedEntry e ⌝ }
 {
-    (4 < e.body) | (8 <= e.flags) | (64 <= e.present) | (64 <= e.manual) | (64 <= e.overridable)
+    (8 < e.body) | (8 <= e.flags) | (64 <= e.present) | (64 <= e.manual) | (64 <= e.overridable)
 }
 
 // Whether a condition is manual or overridable though the plan does not have it: all six at once, one bit each.
@@ -167,12 +168,18 @@ fn stray(e: PlanEntry) -> bool
 fn unfit_entry(p: usize, count: u8, e: PlanEntry) -> bool
     ensures { λ r. ⌜ r ≡ unfitEntry p count e ⌝ }
 {
-    let leaf = e.body_kind().is_leaf();
+    let kind = e.body_kind();
+    let leaf = kind.is(Body::Leaf);
     let childless = count == 0;
     let body = (leaf & !childless) | (!leaf & childless);
     let root = (p == 0) & e.is_named();
     let waits = leaf & ((e.wait != 0) | e.retries_aborted() | e.waits_for_optional());
-    body | stray(e) | root | waits
+    let unfit = body | stray(e) | root | waits;
+    // a branch, since few plans have such a body
+    if kind.is_of_two() {
+        return unfit | (count != 2) | e.retries_aborted();
+    }
+    unfit
 }
 
 // Whether plan p breaks a rule, by its entry, its number of children and its named children.

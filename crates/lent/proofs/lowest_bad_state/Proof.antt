@@ -12,10 +12,10 @@ use Rattle.lent.proofs.lowest_bad_state.Statement.{statement}
 use Rattle.lent.proofs.lowest_bad_state.Tie as tie
 
 abbrev Inv-loop : tie.InvT-loop
-Inv-loop table n states running₀ undone₀ p₀ running undone p = Marking table states n p running undone
+Inv-loop table n states alone₀ shut₀ p₀ alone shut p = Marking table states n p alone shut
 
 abbrev μ-loop : tie.MeasureT-loop
-μ-loop table n states running₀ undone₀ p₀ running undone p = n - p
+μ-loop table n states alone₀ shut₀ p₀ alone shut p = n - p
 
 returns : tie.Need-returns Inv-loop μ-loop
 returns c = stops-here _ _ 0 (below-none _) (omega arith) (bad-code _ _ 0 (c .if1 .taken))
@@ -27,8 +27,8 @@ loop-holds c =
       started = omega arith;
       within = omega arith;
       passed = λ k l. let e : k ≡ 0 = omega arith in rw e (good-root _ _ (c .if1 .left));
-      runs = marks-none _ _ _ 256 fits;
-      undoes = marks-none _ _ _ 256 fits;
+      aloneMarks = marks-none _ _ _ 256 fits;
+      shutMarks = marks-none _ _ _ 256 fits;
     }
 
 returns-2 : tie.Need-returns-2 Inv-loop μ-loop
@@ -73,12 +73,13 @@ turn-at :
     (now (start-of (up-of c) .args .states))
     (start-of (up-of c) .args .n)
     (loop-of (up-of c) .loop .p)
-    (loop-of (up-of c) .loop .running)
-    (loop-of (up-of c) .loop .undone)
+    (loop-of (up-of c) .loop .alone)
+    (loop-of (up-of c) .loop .shut)
     (up-of c .parent-at .result)
     (c .before .before .before .before .before .before .before .entry-at .result)
-    (c .before .before .before .before .before .from-byte .result)
-    (c .before .before .child-suits .result)
+    (c .before .before .before .before .before .before .body-kind .result)
+    (c .before .before .before .before .from-byte .result)
+    (c .before .child-suits .result)
     (c .breaks-by .result)
 turn-at c =
     let up = up-of c in
@@ -87,6 +88,7 @@ turn-at c =
     _
     (up .parent-at .ensures)
     (inside up)
+    (c .before .before .before .before .before .before .before .before .if3 .left)
     _
     _
     _
@@ -94,10 +96,10 @@ turn-at c =
     _
     _
     (c .before .before .before .before .before .before .before .entry-at .ensures)
-    (c .before .before .before .before .before .from-byte .ensures)
-    (c .before .before .before .from-byte2 .ensures)
-    (c .before .body-kind .ensures)
-    (c .before .before .child-suits .ensures)
+    (c .before .before .before .before .from-byte .ensures)
+    (c .before .before .from-byte2 .ensures)
+    (c .before .before .before .before .before .before .body-kind .ensures)
+    (c .before .child-suits .ensures)
     (c .breaks-by .ensures)
 
 returns-3 : tie.Need-returns-3 Inv-loop μ-loop
@@ -111,8 +113,8 @@ loop-again c =
     let passed = c .before .before .before .before .before in
     let turn = turn-at (passed .before) in
     turn .next (turn .tested ∙ passed .if4 .left) _ _ _ _ _ (c .before .before .retries-aborted .ensures)
-    (c .before .before .before .before .in-execution .ensures)
-    (c .before .is-done .ensures)
+    (c .before .before .before .before .stands-alone .ensures)
+    (c .before .lets-later .ensures)
     (c .before .before .before .marked .ensures)
     (c .marked2 .ensures)
 
@@ -137,10 +139,10 @@ lowest-bad-state-spec =
     (λ c. omega arith)
     idle-again
     (λ c κs. omega (arith, inside (c .before .before)))
+    (λ c κs. search needs)
     (λ c. omega arith)
     (λ c κs. search needs)
-    (λ c. omega (arith, inside (c .before .before .before .before .before .before)))
-    (λ c κs. search needs)
+    (λ c. omega (arith, inside (c .before .before .before .before .before .before .before)))
     (λ c κs. search needs)
     (λ c κs. search needs)
     (λ c. small (c .before .before .before .before .before .before .before .before .before))

@@ -1,4 +1,5 @@
--- `may_pick` meets its contract: in each arm the body is known. Assumes nothing.
+-- `may_pick` meets its contract: by the body. Assumes nothing.
+use mathlib.Core.Path.{sym, _∙_}
 use borrow.Author.Needs.{needs}
 use Rattle.lent.proofs.may_pick.Statement.{statement}
 use Rattle.lent.proofs.may_pick.Tie as tie
@@ -7,13 +8,6 @@ pub may-pick-spec : {M : Type 1} → statement M
 may-pick-spec =
     tie.close
     (tie.spec
-    (λ c. search needs)
-    (λ c. search needs)
-    (λ c. search needs)
-    (λ c. search needs)
-    (λ c. search needs)
-    (λ c. simp (c .enum-told .given .1))
-    (λ c. simp (c .enum-told2 .given .1))
-    (λ c. simp (c .enum-told3 .given .1))
-    (λ c. simp (c .enum-told4 .given .1))
-    (λ c. simp (c .enum-told5 .given .1)))
+    (λ c κs. search needs)
+    (λ c. simp (sym (c .before .is .ensures) ∙ c .if1 .taken))
+    (λ c. simp (sym (c .before .is .ensures) ∙ c .if1 .left)))

@@ -1,13 +1,14 @@
--- `word_contradicts` meets its contract: a bit of the word that it tests is set where that condition is satisfied but not satisfiable,
--- and the two low bits are the filter and the setup. Assumes nothing.
-use mathlib.Core.Path.{_≡_, ap, _∙_}
+-- `word_contradicts` meets its contract: a bit of a word that it tests is set where it is set in the word handed in and another, so many
+-- places higher, is not. Of the one word the two low bits are asked for, the filter's and the setup's, of the other bit 20. Assumes nothing.
+use mathlib.Core.Path.{_≡_, ap, ap₂, _∙_}
 use mathlib.Core.Bool.{Bool, not, _&&_, _||_, or-false}
 use Prim.Native.Nat.{ℕ, _+_, _-_, _/_, _%_, _^_, _<_}
 use native.Mathlib.Omega.{arith}
 use lib.Bits.{bitAnd}
 use lib.Dec.{eqb}
 use Rattle.rules.specs.Bytes.{isSet}
-use Rattle.rules.specs.Words.{contradicts}
+use Rattle.rules.specs.Words.{satisfiedOnly, ifSatisfied, ifSatisfiable}
+use Rattle.rules.specs.declared.Condition.the-variants.{Filter, Setup}
 use Rattle.rules.proofs.Digits.{and-set, shift-set, not-set, lowest-bit}
 use Rattle.lent.proofs.word_contradicts.Statement.{statement}
 use Rattle.lent.proofs.word_contradicts.Tie as tie
@@ -19,18 +20,25 @@ low-bits x =
     (ap (λ (b : Bool). isSet 0 x || b) (or-false (isSet 1 x)))
 
 module _ (x : ℕ) (fits : x < 2 ^ 32) where
-  -- the word that is tested
-  abbrev tested : ℕ
-  tested = bitAnd x (2 ^ 32 - 1 - x / 2 ^ 6)
+  -- the word whose bit k tells that bit k of x is set, and the one j places higher is not
+  abbrev alone : ℕ → ℕ
+  alone j = bitAnd x (2 ^ 32 - 1 - x / 2 ^ j)
 
-  tested-bit : (k : ℕ) → k < 32 → isSet k tested ≡ (isSet k x && not (isSet (6 + k) x))
-  tested-bit k h = simp (and-set, not-set 32 k (x / 2 ^ 6) h (omega (arith, fits)), shift-set)
+  alone-bit : (j k : ℕ) → x / 2 ^ j < 2 ^ 32 → k < 32 → isSet k (alone j) ≡ (isSet k x && not (isSet (j + k) x))
+  alone-bit j k l h = simp (and-set, not-set 32 k (x / 2 ^ j) h l, shift-set)
 
-  tested-bits : not (eqb (tested % 4) 0) ≡ contradicts x
-  tested-bits = low-bits tested ∙ simp (tested-bit 0 (omega arith), tested-bit 1 (omega arith))
+  low-pair : not (eqb (alone 6 % 4) 0) ≡ (satisfiedOnly Filter x || satisfiedOnly Setup x)
+  low-pair =
+      low-bits (alone 6) ∙ simp (alone-bit 6 0 (omega (arith, fits)) (omega arith), alone-bit 6 1 (omega (arith, fits)) (omega arith))
+
+  branch : eqb (alone 1 / 2 ^ 20 % 2) 1 ≡ (ifSatisfied x && not (ifSatisfiable x))
+  branch = alone-bit 1 20 (omega (arith, fits)) (omega arith)
 
 returns : tie.Need-returns
-returns c = tested-bits (c .args .x) (omega (arith, c .fits .x .fits))
+returns c =
+    let x = c .args .x in
+    let fits : x < 2 ^ 32 = omega (arith, c .fits .x .fits) in
+    ap₂ (λ (a b : Bool). a || b) (low-pair x fits) (branch x fits)
 
 pub word-contradicts-spec : {M : Type 1} → statement M
 word-contradicts-spec = tie.close (tie.spec returns)

@@ -6,10 +6,8 @@ use Prim.Native.Nat.{ℕ}
 use denote.Ref.{now}
 use borrow.Author.Needs.{needs}
 use borrow.Author.Tests.{not-true, not-false}
-use Rattle.rules.specs.Lists.{all}
-use Rattle.rules.specs.States.{stateAt, ended}
-use Rattle.rules.specs.Table.{waitForOptional, enough, children}
-use Rattle.rules.specs.Step.{childrenComplete}
+use Rattle.rules.specs.Table.{bodyOf, waitForOptional, enough}
+use Rattle.rules.specs.Step.{allEnded, childrenComplete}
 use Rattle.rules.specs.declared.PlanState.the-variants.{Completed}
 use Rattle.moves.specs.ChildWords.{ChildWords}
 use Rattle.moves.proofs.ChildWords.{in-one, complete-is}
@@ -28,7 +26,7 @@ decides :
     let args = start-of c .args in
     let t = now (args .table) in
     (s : List ℕ) → ChildWords t s (args .p) (now (args .sets)) → (over : Bool)
-    → over ≡ all (λ k. ended (stateAt s k)) (children t (args .p))
+    → over ≡ allEnded t s (args .p)
     → Decided (c .wait-for .result) (waitForOptional (c .before .before .before .entry-at .result)) over (childrenComplete t s (args .p))
 decides c s known over eo =
     let read = c .before .before .before in
@@ -61,10 +59,11 @@ returns-2 c s known =
 
 returns-3 : tie.Need-returns-3
 returns-3 c s known =
-    let optional = c .before .before in
+    let optional = c .before .before .before in
     let enough = optional .before in
-    by-others (decides (enough .before) s known _ (c .all-ended .ensures _ s known)) (not-false _ (enough .if1 .left))
-    (sym (optional .waits-for-optional .ensures) ∙ not-false _ (c .before .if2 .left))
+    let body = c .before .body-kind .ensures ∙ ap bodyOf (enough .before .before .before .before .entry-at .ensures) in
+    by-others (decides (enough .before) s known _ (c .all-ended .ensures _ s known body)) (not-false _ (enough .if1 .left))
+    (sym (optional .waits-for-optional .ensures) ∙ not-false _ (c .before .before .if2 .left))
 
 pub may-complete-spec : {M : Type 1} → statement M
 may-complete-spec =
@@ -78,5 +77,6 @@ may-complete-spec =
     returns
     (λ c κs. search needs)
     returns-2
+    (λ c κs. search needs)
     (λ c κs. search needs)
     returns-3)

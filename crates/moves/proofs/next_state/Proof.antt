@@ -135,7 +135,7 @@ inactive : (c : tie.After-orders) → asked (base (c .before .before .before)) �
 unfolding move
 inactive c =
     let up = c .before .before .before in
-    executing up (c .before .enum-told .given .1) (λ b g. simp (b, g, ← c .orders .ensures (w (base up))))
+    executing up (c .before .enum-told .given .1) (λ b g. simp (b, g, ← c .orders .ensures))
 
 considered :
     (c : tie.After-holds) →
@@ -165,7 +165,7 @@ ready : (c : tie.After-orders2) → asked (base (c .before .before .before)) ≡
 unfolding move
 ready c =
     let up = c .before .before .before in
-    executing up (c .before .enum-told4 .given .1) (λ b g. simp (b, g, ← c .orders2 .ensures (w (base up))))
+    executing up (c .before .enum-told4 .given .1) (λ b g. simp (b, g, ← c .orders2 .ensures))
 
 activated :
     (c : tie.After-too-many-lost) →
@@ -227,7 +227,7 @@ aborted : (c : tie.After-orders3) → asked (base (c .before .before .before)) �
 unfolding move
 aborted c =
     let up = c .before .before .before in
-    executing up (c .before .enum-told7 .given .1) (λ b g. simp (b, g, ← c .orders3 .ensures (w (base up))))
+    executing up (c .before .enum-told7 .given .1) (λ b g. simp (b, g, ← c .orders3 .ensures))
 
 pub next-state-spec : {M : Type 1} → statement M
 next-state-spec =

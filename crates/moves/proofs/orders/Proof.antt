@@ -16,11 +16,11 @@ use Rattle.moves.proofs.orders.Statement.{statement}
 use Rattle.moves.proofs.orders.Tie as tie
 
 returns : tie.Need-returns
-returns c w = rw (c .before .if1 .taken) (c .root-orders .ensures)
+returns c = rw (c .before .if1 .taken) (c .root-orders .ensures)
 
 -- where the parent's number is known: the start, and that it is the number of a lower plan
 abbrev start-of : tie.After-parent-at → tie.Start
-start-of c = c .before .before .before .before .before .before .before
+start-of c = c .before .before .before .before .before .before .before .before
 
 child : (c : tie.After-parent-at) → 0 < start-of c .args .p
 child c = omega (arith, c .before .if1 .left)
@@ -28,7 +28,7 @@ child c = omega (arith, c .before .if1 .left)
 inside : (c : tie.After-parent-at) → c .parent-at .result < planCount (now (start-of c .args .table))
 inside c =
     let pre = start-of c .pre in
-    omega (arith, c .parent-at .ensures, pre .0 .down _ (child c) (pre .1), pre .1)
+    omega (arith, c .parent-at .ensures, pre .0 .down _ (child c) (pre .1 .0), pre .1 .0)
 
 has-words : (c : tie.After-parent-at) → HasWords (now (start-of c .args .sets)) (c .parent-at .result)
 has-words c =
@@ -53,13 +53,21 @@ entry-at-requires c κs =
     let up = c .before .before .before .before .before .before .before in
     omega (arith, inside up, start-of up .pre .0 .long)
 
+word-at-requires : tie.Need-word-at-requires
+word-at-requires c κs =
+    let up = c .before .before .before .before .before .before .before .before in
+    let pre = start-of up .pre in
+    omega (arith, up .parent-at .ensures, pre .0 .down _ (child up) (pre .1 .0), pre .1 .1)
+
 returns-2 : tie.Need-returns-2
-returns-2 c w =
-    let read = c .before .before .before in
+returns-2 c =
+    let entry = c .before .before in
+    let read = entry .before .before in
     let up = read .before .before .before .before .before .before in
     let start = start-of up in
     let facts = start .pre .0 in
-    let within = start .pre .1 in
+    let within = start .pre .1 .0 in
+    let w = now (start .args .words) in
     let t = now (start .args .table) in
     let s = now (start .args .old) in
     let picks : ℕ → ℕ = picksOf (now (start .args .picks)) in
@@ -73,12 +81,12 @@ returns-2 c w =
       ranked = read .before .before .wide .ensures ∙ facts .ranked p within;
     }
     in
-    let rank = c .before .before .chosen-rank in
+    let rank = entry .before .chosen-rank in
     let picked =
     ap (λ (k : ℕ). eqb k (rank .result)) (ranked .ranked)
     ∙ rank .ensures t s picks p known (ranked .child) (sym (read .wide2 .ensures)) in
     let before = read .before .before .before .before .from-byte .ensures ∙ sym (state-is s q) in
-    c .orders-if .ensures t s w (chosen t s picks) p known ranked (c .before .entry-at .ensures) picked
+    c .orders-if .ensures t s w (chosen t s picks) p known ranked (entry .entry-at .ensures) (c .before .word-at .ensures) picked
     ∙ child-orders t s w (chosen t s picks) _ (start .args .after) q p (child up) is-parent before
 
 pub orders-spec : {M : Type 1} → statement M
@@ -96,5 +104,6 @@ orders-spec =
     (λ c κs. search needs)
     chosen-rank-requires
     entry-at-requires
-    (λ c κs. has-words (c .before .before .before .before .before .before .before .before))
+    word-at-requires
+    (λ c κs. has-words (c .before .before .before .before .before .before .before .before .before))
     returns-2)

@@ -4,16 +4,15 @@ use mathlib.Core.Bool.{Bool, _||_}
 use Prim.Native.Nat.{_-_, _≤_}
 use native.Mathlib.Numerals.{add-one}
 use native.Mathlib.Omega.{arith}
-use Rattle.rules.specs.Answers.{badRecordWord}
-use Rattle.parts.specs.OneStep.{anyBelow}
+use Rattle.parts.specs.OneStep.{anyBelow, wrongAt}
 use Rattle.parts.proofs.any_wrong_word.Statement.{statement}
 use Rattle.parts.proofs.any_wrong_word.Tie as tie
 
 abbrev Inv-loop : tie.InvT-loop
-Inv-loop words n bad₀ p₀ bad p = (p ≤ n) × (bad ≡ anyBelow (badRecordWord words) p)
+Inv-loop unused words n bad₀ p₀ bad p = (p ≤ n) × (bad ≡ anyBelow (wrongAt unused words) p)
 
 abbrev μ-loop : tie.MeasureT-loop
-μ-loop words n bad₀ p₀ bad p = n - p
+μ-loop unused words n bad₀ p₀ bad p = n - p
 
 loop-holds : tie.Need-loop-holds Inv-loop μ-loop
 unfolding anyBelow
@@ -28,11 +27,11 @@ loop-again c = (
 
 returns : tie.Need-returns Inv-loop μ-loop
 returns c =
-    let n = c .before .before .before .args .n in
+    let n = c .before .before .before .before .args .n in
     let end : c .before .loop .p ≡ n = omega arith in
     rw end at (c .before .loop .inv .1)
 
 pub any-wrong-word-spec : {M : Type 1} → statement M
 any-wrong-word-spec =
     tie.close
-    (tie.spec Inv-loop μ-loop loop-holds (λ c κs. omega arith) (λ c. omega arith) (λ c. omega arith) loop-again returns)
+    (tie.spec Inv-loop μ-loop loop-holds (λ c κs. (omega arith, omega arith)) (λ c. omega arith) (λ c. omega arith) loop-again returns)

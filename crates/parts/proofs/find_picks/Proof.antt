@@ -10,7 +10,8 @@ use lib.ListN.{length, set, length-set}
 use lib.Seq.{getD-set-same}
 use Rattle.rules.specs.Bytes.{byteAt}
 use Rattle.rules.specs.States.{code}
-use Rattle.rules.specs.Table.{bodyOf, isAnyOrder}
+use Rattle.rules.specs.Table.{bodyOf, isBody}
+use Rattle.rules.specs.declared.Body.the-variants.{AnyOrder}
 use Rattle.rules.specs.declared.PlanState.the-variants.{Activated}
 use Rattle.parts.proofs.Picks.{Finding, PickTurn, finding-root, finding-past, pick-turn, all-found}
 use Rattle.parts.proofs.find_picks.Statement.{statement}
@@ -52,7 +53,7 @@ loop-again c =
     (c .if1 .taken)
 
 -- where the parent's body is known: the turn, and what it needs and does
-abbrev turn-of : tie.After-is-any-order Inv-loop μ-loop → tie.In-loop Inv-loop μ-loop
+abbrev turn-of : tie.After-is Inv-loop μ-loop → tie.In-loop Inv-loop μ-loop
 turn-of c = c .before .before .before .before .before .before
 
 above : (c : tie.After-parent-at Inv-loop μ-loop) → c .parent-at .result < c .before .before .before .before .loop .p
@@ -61,11 +62,11 @@ above c =
     omega (arith, c .parent-at .ensures, start-of turn .pre .0 .rooted .down _ (turn .before .loop .inv .started) (turn .loop-test .taken))
 
 turn-at :
-    (c : tie.After-is-any-order Inv-loop μ-loop) (skips : Bool)
+    (c : tie.After-is Inv-loop μ-loop) (skips : Bool)
     → let turn = turn-of c in
     let at = turn .before .loop in
     let q = c .before .before .before .parent-at .result in
-    skips ≡ (eqb (byteAt (set (at .kept) (at .p) 0) q) (code Activated) || not (c .is-any-order .result))
+    skips ≡ (eqb (byteAt (set (at .kept) (at .p) 0) q) (code Activated) || not (c .is .result))
     → PickTurn
     (now (start-of turn .args .table))
     (now (start-of turn .args .old))
@@ -95,7 +96,7 @@ turn-at c skips test =
     skips
     (test
     ∙ ap (λ (b : Bool). eqb (byteAt (set (at .kept) (at .p) 0) (entry .before .parent-at .result)) (code Activated) || not b)
-    (c .is-any-order .ensures ∙ ap isAnyOrder body))
+    (c .is .ensures ∙ ap (isBody AnyOrder) body))
 
 -- the parent's place in both buffers, cleared for p
 place :

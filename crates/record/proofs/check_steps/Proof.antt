@@ -14,6 +14,7 @@ use Rattle.rules.specs.Record.{wordsOf, statesOf, statesBefore}
 use Rattle.rules.specs.Answers.{StepPasses, Judged}
 use Rattle.rules.specs.declared.Refusal.the-variants.{Unexplained}
 use Rattle.rules.specs.declared.Verdict.the-variants as verdict
+use Rattle.rules.proofs.Tree.{passes}
 use Rattle.children.specs.Sets.{Surveyed}
 use Rattle.lent.specs.Calls.{MayMove}
 use Rattle.lent.proofs.Calls.{rooted}
@@ -50,11 +51,11 @@ use Rattle.record.proofs.check_steps.Tie as tie
 
 -- among the plans of a step: those before p are as shown
 abbrev Inv-loop : tie.InvT-loop
-Inv-loop table n ranks names «record» steps sets picks kept new bad-step₀ bad-plan₀ i wrong old shown p₀ bad-step bad-plan p =
+Inv-loop table n ranks names «record» steps sets picks kept new unused bad-step₀ bad-plan₀ i wrong old shown p₀ bad-step bad-plan p =
     (p ≤ n) × (bad-step ≡ 0) × ((k : ℕ) → k < p → byteAt new k ≡ byteAt shown k)
 
 abbrev μ-loop : tie.MeasureT-loop
-μ-loop table n ranks names «record» steps sets picks kept new bad-step₀ bad-plan₀ i wrong old shown p₀ bad-step bad-plan p = n - p
+μ-loop table n ranks names «record» steps sets picks kept new unused bad-step₀ bad-plan₀ i wrong old shown p₀ bad-step bad-plan p = n - p
 
 -- among the steps: those before i pass
 record Passed (t r : List ℕ) (n steps : ℕ) (sets picks kept new : List ℕ) (bad-step i : ℕ) : Type 0 where
@@ -68,11 +69,11 @@ record Passed (t r : List ℕ) (n steps : ℕ) (sets picks kept new : List ℕ) 
   surveyed : Surveyed t (statesBefore t r i) n sets
 
 abbrev Inv-search : tie.InvT-search
-Inv-search table n ranks names «record» steps idle sets₀ picks₀ kept₀ new₀ bad-step₀ bad-plan₀ i₀ sets picks kept new bad-step bad-plan i =
+Inv-search table n ranks names «record» steps idle sets₀ picks₀ kept₀ new₀ unused bad-step₀ bad-plan₀ i₀ sets picks kept new bad-step bad-plan i =
     Passed table «record» n steps sets picks kept new bad-step i
 
 abbrev μ-search : tie.MeasureT-search
-μ-search table n ranks names «record» steps idle sets₀ picks₀ kept₀ new₀ bad-step₀ bad-plan₀ i₀ sets picks kept new bad-step bad-plan i =
+μ-search table n ranks names «record» steps idle sets₀ picks₀ kept₀ new₀ unused bad-step₀ bad-plan₀ i₀ sets picks kept new bad-step bad-plan i =
     steps - i
 
 array-share-prefix-idle : tie.Need-array-share-prefix-idle Inv-loop μ-loop Inv-search μ-search
@@ -87,10 +88,16 @@ survey-requires c κs =
     may-survey _ _ _ _ _ (idle-moves (pre .0) (pre .1 .0)) _ (pre .1 .0) (replicate 2304 0) (omega arith)
     (λ i l. getD-replicate {A = ℕ} 2304 i 0 0 (omega arith))
 
+find-unused-requires : tie.Need-find-unused-requires Inv-loop μ-loop Inv-search μ-search
+find-unused-requires c κs =
+    let pre = c .before .before .before .before .before .before .before .before .before .pre in
+    let most = idle-few (pre .0) (pre .1 .0) in
+    (most, omega (arith, passes _ (pre .0 .prepared .done) .long, pre .1 .0), omega arith)
+
 search-holds : tie.Need-search-holds Inv-loop μ-loop Inv-search μ-search
 search-holds c =
-    let pre = c .before .before .before .before .before .before .before .before .pre in
-    let survey = c .before .survey .ensures in
+    let pre = c .before .before .before .before .before .before .before .before .before .before .before .pre in
+    let survey = c .before .before .before .before .survey .ensures in
     record {
       within = omega arith;
       none-bad = refl;
@@ -104,7 +111,7 @@ search-holds c =
 
 -- where the search stands
 abbrev start-of : tie.In-search Inv-loop μ-loop Inv-search μ-search → tie.Start Inv-loop μ-loop Inv-search μ-search
-start-of c = c .before .before .before .before .before .before .before .before .before .before
+start-of c = c .before .before .before .before .before .before .before .before .before .before .before .before .before
 
 here :
     (c : tie.In-search Inv-loop μ-loop Inv-search μ-search)
@@ -122,17 +129,20 @@ here c =
 
 lowest-wrong-word-requires : tie.Need-lowest-wrong-word-requires Inv-loop μ-loop Inv-search μ-search
 lowest-wrong-word-requires c κs =
-    let at = here (c .before) in
-    omega (arith, words-long at _ (c .words-of .ensures (now (start-of (c .before) .args .table)) (at .whole)))
+    let search = c .before .before in
+    let at = here search in (
+      search .before .before .before .find-unused .ensures .0,
+      omega (arith, words-long at _ (c .before .words-of .ensures (now (start-of search .args .table)) (at .whole))),
+    )
 
 states-before-requires : tie.Need-states-before-requires Inv-loop μ-loop Inv-search μ-search
 states-before-requires c κs =
-    let at = here (c .before .before .before) in
+    let at = here (c .before .before .before .before) in
     (omega (arith, few-plans at), idle-part _ 256 0 (few-plans at), omega (arith, there at))
 
 -- where the parts of the step are at hand: its words, the states before it and those shown
 abbrev search-of : tie.After-states-of Inv-loop μ-loop Inv-search μ-search → tie.In-search Inv-loop μ-loop Inv-search μ-search
-search-of c = c .before .before .before .before .before
+search-of c = c .before .before .before .before .before .before
 
 abbrev table-of : tie.After-states-of Inv-loop μ-loop Inv-search μ-search → List ℕ
 table-of c = now (start-of (search-of c) .args .table)
@@ -145,8 +155,8 @@ step-of c = search-of c .before .search .i
 
 is-words :
     (c : tie.After-states-of Inv-loop μ-loop Inv-search μ-search)
-    → now (c .before .before .before .before .words-of .result) ≡ wordsOf (table-of c) (record-of c) (step-of c)
-is-words c = c .before .before .before .before .words-of .ensures (table-of c) (here (search-of c) .whole)
+    → now (c .before .before .before .before .before .words-of .result) ≡ wordsOf (table-of c) (record-of c) (step-of c)
+is-words c = c .before .before .before .before .before .words-of .ensures (table-of c) (here (search-of c) .whole)
 
 is-old :
     (c : tie.After-states-of Inv-loop μ-loop Inv-search μ-search)
@@ -161,7 +171,7 @@ is-shown c = c .states-of .ensures (table-of c) (here (search-of c) .whole)
 -- its plans may move, and the words that are kept are those of the states before it
 moves-at :
     (c : tie.After-states-of Inv-loop μ-loop Inv-search μ-search)
-    → MayMove (table-of c) (now (c .before .states-before .result)) (now (c .before .before .before .before .words-of .result))
+    → MayMove (table-of c) (now (c .before .states-before .result)) (now (c .before .before .before .before .before .words-of .result))
     (now (start-of (search-of c) .args .ranks)) (now (start-of (search-of c) .args .names))
 moves-at c = may-move (here (search-of c)) _ _ (is-old c) (is-words c)
 
@@ -304,7 +314,7 @@ record Stopped (t r : List ℕ) (step plan : ℕ) : Type 0 where
   judged : Judged t r (verdict.Refused (Unexplained step plan))
 
 abbrev first-of : tie.At-search Inv-loop μ-loop Inv-search μ-search → tie.Start Inv-loop μ-loop Inv-search μ-search
-first-of c = c .before .before .before .before .before .before .before .before .before
+first-of c = c .before .before .before .before .before .before .before .before .before .before .before .before
 
 stopped :
     (c : tie.Left-search Inv-loop μ-loop Inv-search μ-search) → (c .search-test .bad-step ≡ 0 → ⊥)
@@ -318,30 +328,30 @@ stopped c found =
     let at = here (record { before = c .before; search-test = w .0 }) in
     let whole = at .whole in
     let words = w .1 .ensures t whole in
-    let plan = going (w .2 .result) (first-of (c .before) .args .n) (w .16 .p) (w .17 .taken) in
-    rw (w .20, w .21)
+    let plan = going (w .3 .result) (first-of (c .before) .args .n) (w .17 .p) (w .18 .taken) in
+    rw (w .21, w .22)
     (record {
       step-small = step-fits at;
       plan-small = omega (arith, plan .inside, few-plans at);
       judged =
-          stops-at-plan at _ _ _ _ _ (w .4 .ensures t whole) words (w .5 .ensures t whole) (w .8 .ensures) (w .14 .ensures .0) _
+          stops-at-plan at _ _ _ _ _ (w .5 .ensures t whole) words (w .6 .ensures t whole) (w .9 .ensures) (w .15 .ensures .0) _
           (plan .inside)
-          (w .16 .inv .2)
-          (w .19 .taken)
-          (words-pass at _ words _ (w .2 .ensures) (omega (arith, plan .right)));
+          (w .17 .inv .2)
+          (w .20 .taken)
+          (words-pass at _ words _ (w .3 .ensures) (omega (arith, plan .right)));
     }))
     (c .search-test .came)
 
 cast-count : tie.Need-cast-count Inv-loop μ-loop Inv-search μ-search
 cast-count c =
-    let pre = c .before .before .before .before .before .before .before .before .before .before .before .pre in
+    let pre = c .before .before .before .before .before .before .before .before .before .before .before .before .before .before .pre in
     omega (arith, few _ _ (pre .0 .done), pre .1 .1)
 
 returns-2 : tie.Need-returns-2 Inv-loop μ-loop Inv-search μ-search
 returns-2 c =
-    let pre = c .before .before .before .before .before .before .before .before .before .before .before .pre in
+    let pre = c .before .before .before .before .before .before .before .before .before .before .before .before .before .before .pre in
     ⊎-elim (λ w. all-steps _ _ _ _ (pre .0 .done) (pre .1 .1) (w .0 .left) (c .before .before .search .inv .pass))
-    (λ w. absurd (omega (arith, w .20, c .if3 .taken)))
+    (λ w. absurd (omega (arith, w .21, c .if3 .taken)))
     (c .before .search-test .came)
 
 -- where the search goes on: the numbers fit
@@ -363,16 +373,19 @@ check-steps-spec =
     (λ c. sym (length-take-le _ (replicate 256 0) (array-share-prefix-idle (c .before))))
     (λ c. refl)
     survey-requires
+    (λ c. refl)
+    find-unused-requires
     search-holds
     (λ c κs. there (here c))
+    (λ c. search needs)
     lowest-wrong-word-requires
     (λ c. search needs)
     states-before-requires
-    (λ c κs. there (here (c .before .before .before .before)))
-    (λ c. sym (c .before .before .before .before .before .before .before .search .inv .picks-long))
-    (λ c. sym (c .before .before .before .before .before .before .before .before .search .inv .kept-long))
+    (λ c κs. there (here (c .before .before .before .before .before)))
+    (λ c. sym (c .before .before .before .before .before .before .before .before .search .inv .picks-long))
+    (λ c. sym (c .before .before .before .before .before .before .before .before .before .search .inv .kept-long))
     find-picks-requires
-    (λ c. sym (c .before .before .before .before .before .before .before .before .before .before .before .before .search .inv .sets-long))
+    (λ c. sym (c .before .before .before .before .before .before .before .before .before .before .before .before .before .search .inv .sets-long))
     slice-aggregate-advance-2
     slice-aggregate-advance-3
     advance-requires

@@ -2,7 +2,7 @@
 use mathlib.Core.Path.{sym, _∙_}
 use native.Mathlib.Omega.{arith}
 use borrow.Author.Needs.{needs}
-use Rattle.lent.proofs.Calls.{may-move}
+use Rattle.lent.proofs.Calls.{may-move, words-in}
 use Rattle.step.proofs.Rests.{run-refused, run-done}
 use Rattle.step.proofs.rest.Statement.{statement}
 use Rattle.step.proofs.rest.Tie as tie
@@ -12,7 +12,8 @@ settle-requires c κs =
     let called = c .before .before .before .before .before .before .before .before .check-call .ensures in
     let told = c .before .before .before .enum-told .given .1 in
     let facts = called .facts told in
-    may-move _ _ _ _ _ _ (sym (called .is) ∙ told) facts (omega (arith, facts .small)) (omega (arith, facts .small))
+    let done = sym (called .is) ∙ told in
+    (may-move _ _ _ _ _ _ done facts (omega (arith, facts .small)) (omega (arith, facts .small)), words-in _ _ _ done)
 
 returns : tie.Need-returns
 returns c =

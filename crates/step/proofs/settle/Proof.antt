@@ -42,14 +42,14 @@ few moves = omega (arith, moves .passes .long, tree _ (passes _ (moves .prepared
 
 survey-requires : tie.Need-survey-requires Inv-loop μ-loop
 survey-requires c κs =
-    let moves = c .before .before .before .before .before .before .before .pre in
+    let moves = c .before .before .before .before .before .before .before .pre .0 in
     let most = few moves in
     may-survey _ _ _ _ _ moves _ (moves .passes .long) (replicate 2304 0) (omega arith)
     (λ i l. getD-replicate {A = ℕ} 2304 i 0 0 (omega arith))
 
 take-picks-requires : tie.Need-take-picks-requires Inv-loop μ-loop
 take-picks-requires c κs =
-    let moves = c .before .before .before .before .before .before .before .before .before .before .pre in
+    let moves = c .before .before .before .before .before .before .before .before .before .before .pre .0 in
     (omega (arith, moves .words, moves .passes .long), omega (arith, few moves))
 
 loop-holds : tie.Need-loop-holds Inv-loop μ-loop
@@ -75,13 +75,13 @@ moves-at :
     (c : tie.At-loop Inv-loop μ-loop)
     → MayMove (now (start-of c .args .table)) (c .loop .states) (now (start-of c .args .words)) (now (start-of c .args .ranks))
     (now (start-of c .args .names))
-moves-at c = moves-still _ _ _ _ _ (start-of c .pre) _ _ (c .loop .inv .running)
+moves-at c = moves-still _ _ _ _ _ (start-of c .pre .0) (start-of c .pre .1) _ _ (c .loop .inv .running)
 
 advance-requires : tie.Need-advance-requires Inv-loop μ-loop
 advance-requires c κs =
     let at = c .before .before .before .before in
     let inv = at .loop .inv in
-    let first = start-of at .pre in
+    let first = start-of at .pre .0 in
     let most = few first in
     let whole = first .passes .long in
     let moves = moves-at at in (
@@ -96,7 +96,7 @@ is-step :
     → Taken (now (start-of c .args .words)) (length (now (start-of c .args .states))) picks
     → x ≡ stepUnder (now (start-of c .args .table)) (c .loop .states) (now (start-of c .args .words)) (picksOf picks)
     → x ≡ step (now (start-of c .args .table)) (c .loop .states) (now (start-of c .args .words))
-is-step c taken e = e ∙ taken-step _ _ _ _ _ (moves-at c) _ (start-of c .pre .passes .long) _ taken
+is-step c taken e = e ∙ taken-step _ _ _ _ _ (moves-at c) _ (start-of c .pre .0 .passes .long) _ taken
 
 -- the test for a change, as the code has it
 tested :
@@ -129,14 +129,14 @@ resurvey-requires c κs =
     let advanced = changed .before .before .before .before .before in
     let at = advanced .before .before .before .before .before in
     let inv = at .loop .inv in
-    let first = start-of at .pre in
+    let first = start-of at .pre .0 in
     let next = is-step at (taken-of at .take-picks .ensures .0) (advanced .advance .ensures .0) in
     let moved =
     running-next _ _ _ _ _ (inv .running) _
     (tested _ _ _ _ _ (inv .long) next (changed .before .unchanged .ensures) ∙ changed .if1 .left)
     next
     in
-    may-resurvey _ _ _ _ _ (moves-at at) _ (moves-still _ _ _ _ _ first _ _ moved) _ (first .passes .long) _ (inv .surveyed)
+    may-resurvey _ _ _ _ _ (moves-at at) _ (moves-still _ _ _ _ _ first (start-of at .pre .1) _ _ moved) _ (first .passes .long) _ (inv .surveyed)
     (omega (arith, few first, inv .sets-long))
 
 loop-again : tie.Need-loop-again Inv-loop μ-loop
@@ -153,7 +153,7 @@ loop-again c =
       sets-long = resurvey .1 .long ∙ inv .sets-long;
       new-long = advanced .advance .ensures .1 .long ∙ inv .new-long;
       within = omega (arith, inv .within, going .if2 .left);
-      long = ap length taken-over ∙ length-take-le _ _ (omega (arith, inv .long, inv .new-long, few (start-of at .pre))) ∙ inv .long;
+      long = ap length taken-over ∙ length-take-le _ _ (omega (arith, inv .long, inv .new-long, few (start-of at .pre .0))) ∙ inv .long;
       running =
           running-next _ _ _ _ _ (inv .running) _
           (tested _ _ _ _ _ (inv .long) next (changed .before .unchanged .ensures) ∙ changed .if1 .left)
@@ -171,7 +171,7 @@ new-room :
     × (length (now (start-of (loop-of c) .args .states)) ≤ length new)
 new-room c moved =
     let inv = loop-of c .loop .inv in
-    let most = few (start-of (loop-of c) .pre) in
+    let most = few (start-of (loop-of c) .pre .0) in
     (omega (arith, moved .long, inv .new-long, inv .long, most), omega (arith, moved .long, inv .new-long, most))
 
 add-k : tie.Need-add-k Inv-loop μ-loop
