@@ -294,9 +294,14 @@ ourMoves =
     ∷ rowStep unordered 430 idle 441
     ∷ []
 
+-- the same rows for each of a few bodies
+forEach : List ℕ → (ℕ → List Row) → List Row
+forEach [] rows = []
+forEach (body ∷ bodies) rows = rows body ++ forEach bodies rows
+
 -- document 02 (i): moves under bodies 5 to 8
 badTurns : List Row
-unfolding T1Of two words idle
+unfolding forEach T1Of two words idle
 badTurns =
     -- on abort: the first child is considered; the second is not while the first runs or is Suspended, nor when it has completed, and is
     -- once it is Aborted, and then goes on
@@ -309,24 +314,9 @@ badTurns =
     ∷ rowStep (two 5 0) 471 idle 472
     ∷ rowStep (two 5 0) 472 idle 473
     ∷ rowStep (two 5 0) 473 idle 474
-    -- on suspend: the second is considered beside a Suspended first, and goes on though that is reactivated or has completed; not beside
-    -- one in another state
-    ∷ rowStep (two 6 0) 450 idle 441
-    ∷ rowStep (two 6 0) 441 idle 442
-    ∷ rowStep (two 6 0) 461 idle 462
-    ∷ rowStep (two 6 0) 430 idle 440
-    ∷ rowStep (two 6 0) 440 idle 440
-    ∷ rowStep (two 6 0) 460 idle 460
+    -- on suspend: not beside an Aborted first; on abort or suspend: there too
     ∷ rowStep (two 6 0) 470 idle 470
-    ∷ rowStep (two 6 0) 480 idle 480
-    -- on abort or suspend: beside either
-    ∷ rowStep (two 7 0) 450 idle 441
-    ∷ rowStep (two 7 0) 441 idle 442
     ∷ rowStep (two 7 0) 470 idle 471
-    ∷ rowStep (two 7 0) 430 idle 440
-    ∷ rowStep (two 7 0) 440 idle 440
-    ∷ rowStep (two 7 0) 460 idle 460
-    ∷ rowStep (two 7 0) 480 idle 480
     -- if-then-else: the second where bit 21 is clear, none yet where it is set alone, the first where both are; what is Ready is activated,
     -- and the other is no longer considered
     ∷ rowStep (two 8 0) 400 idle 401
@@ -335,20 +325,9 @@ badTurns =
     ∷ rowStep (two 8 0) 403 idle 404
     ∷ rowStep (two 8 0) 403 (words (3 * 2 ^ 20) 0 0) 404
     ∷ rowStep (two 8 0) 430 idle 440
-    -- wait-for-optional, and complete (32) on plan 0: an Inactive child counts as ended beside an ended one
-    ∷ rowStep (two 5 2) 460 (words 32 0 0) 660
-    ∷ rowStep (two 6 2) 460 (words 32 0 0) 660
-    ∷ rowStep (two 7 2) 460 (words 32 0 0) 660
-    ∷ rowStep (two 8 2) 460 (words 32 0 0) 660
+    -- wait-for-optional, and complete (32) on plan 0: an Inactive second counts as ended beside an ended first (below), and so does a first
     ∷ rowStep (two 8 2) 406 (words 32 0 0) 606
-    -- but the second after an aborted first does not, on abort and on abort or suspend
-    ∷ rowStep (two 5 2) 470 (words 32 0 0) 471
-    ∷ rowStep (two 7 2) 470 (words 32 0 0) 471
-    ∷ rowStep (two 6 2) 470 (words 32 0 0) 670
-    ∷ rowStep (two 8 2) 470 (words 32 0 0) 670
-    -- it does once the second has ended too; two Inactive children count as nothing, and no child that is under way counts
-    ∷ rowStep (two 5 2) 476 (words 32 0 0) 676
-    ∷ rowStep (two 7 2) 476 (words 32 0 0) 676
+    -- two Inactive children count as nothing, and no child that is under way counts
     ∷ rowStep (two 8 2) 400 (words (32 + 2 * 2 ^ 20) 0 0) 400
     ∷ rowStep (two 5 2) 474 (words 32 0 0) 474
     ∷ rowStep (two 6 2) 464 (words 32 0 0) 464
@@ -358,10 +337,26 @@ badTurns =
     ∷ rowStep (T1Of 5 0 0 1 0x20) 470 idle 471
     ∷ rowStep (T1Of 5 0 0 2 0x20) 470 idle 770
     ∷ []
+    -- on suspend, and on abort or suspend: the second is considered beside a Suspended first, and goes on though that is reactivated or has
+    -- completed; not beside one that is in another state but Aborted
+    ++ forEach (6 ∷ 7 ∷ []) (λ body.
+    rowStep (two body 0) 450 idle 441
+    ∷ rowStep (two body 0) 441 idle 442
+    ∷ rowStep (two body 0) 461 idle 462
+    ∷ rowStep (two body 0) 430 idle 440
+    ∷ rowStep (two body 0) 440 idle 440
+    ∷ rowStep (two body 0) 460 idle 460
+    ∷ rowStep (two body 0) 480 idle 480
+    ∷ [])
+    -- wait-for-optional beside a Completed first; beside an Aborted one an Inactive second does not count on abort and on abort or suspend
+    -- until it has ended too, and counts on suspend and of if-then-else
+    ++ forEach (5 ∷ 6 ∷ 7 ∷ 8 ∷ []) (λ body. rowStep (two body 2) 460 (words 32 0 0) 660 ∷ [])
+    ++ forEach (5 ∷ 7 ∷ []) (λ body. rowStep (two body 2) 470 (words 32 0 0) 471 ∷ rowStep (two body 2) 476 (words 32 0 0) 676 ∷ [])
+    ++ forEach (6 ∷ 8 ∷ []) (λ body. rowStep (two body 2) 470 (words 32 0 0) 670 ∷ [])
 
 -- and refusals
 badTurnsRefused : List Row
-unfolding two three words idle
+unfolding forEach two three words idle
 badTurnsRefused =
     -- 8: three children, retry-aborted
     rowRefuses (three 5) 000 idle 8 0
@@ -371,10 +366,6 @@ badTurnsRefused =
     ∷ rowRefuses (two 5 0) 441 idle 11 2
     ∷ rowRefuses (two 5 0) 461 idle 11 2
     ∷ rowRefuses (two 5 0) 481 idle 11 2
-    ∷ rowRefuses (two 6 0) 431 idle 11 2
-    ∷ rowRefuses (two 6 0) 481 idle 11 2
-    ∷ rowRefuses (two 7 0) 431 idle 11 2
-    ∷ rowRefuses (two 7 0) 481 idle 11 2
     ∷ rowRefuses (two 8 0) 411 idle 11 2
     ∷ rowRefuses (two 8 0) 461 idle 11 2
     ∷ rowRefuses (two 8 0) 471 idle 11 2
@@ -386,6 +377,7 @@ badTurnsRefused =
     ∷ rowRefuses (two 8 0) 000 (words (2 ^ 22) 0 0) 12 0
     ∷ rowRefuses (two 8 0) 000 (words (2 ^ 23) 0 0) 12 0
     ∷ []
+    ++ forEach (6 ∷ 7 ∷ []) (λ body. rowRefuses (two body 0) 431 idle 11 2 ∷ rowRefuses (two body 0) 481 idle 11 2 ∷ [])
 
 -- rows of our own: refusals
 ourRefusals : List Row

@@ -1,6 +1,6 @@
 -- `branch_taken` meets its contract: both children's bits in the word of the Inactive ones, and the plan's own word. Assumes nothing.
-use mathlib.Core.Path.{_≡_, ap, _∙_}
-use mathlib.Core.Bool.{_&&_}
+use mathlib.Core.Path.{_≡_, ap, ap₂, _∙_}
+use mathlib.Core.Bool.{Bool, not, _&&_}
 use mathlib.Core.List.{List}
 use Prim.Native.Nat.{ℕ, _*_, _+_}
 use native.Mathlib.Omega.{arith}
@@ -28,10 +28,12 @@ both-idle c t s known two =
     ∙ both-pass (is Inactive (stateOfFirst t s q)) (is Inactive (stateOfSecond t s q))
 
 returns : tie.Need-returns
-returns c t s known two = simp (both-idle (c .before .before) t s known two, c .before .if1 .taken, c .is-set .ensures)
+returns c t s known two =
+    rw (c .before .if1 .taken) (ap₂ (λ (a b : Bool). a && b) (both-idle (c .before .before) t s known two) (c .is-set .ensures))
 
 returns-2 : tie.Need-returns-2
-returns-2 c t s known two = simp (both-idle (c .before .before) t s known two, c .before .if1 .left, c .is-set2 .ensures)
+returns-2 c t s known two =
+    rw (c .before .if1 .left) (ap₂ (λ (a b : Bool). a && not b) (both-idle (c .before .before) t s known two) (c .is-set2 .ensures))
 
 pub branch-taken-spec : {M : Type 1} → statement M
 branch-taken-spec =
