@@ -1,9 +1,12 @@
 /*
  * Times asbru_check and asbru_step beside host/plain.c, a tuned C implementation without proofs, on the same tables and accepted
  * records in one run, and prints for each number of plans the nanoseconds for a plan and step, the record's bytes a second, and the
- * ratio of the two. The two take turns, and the best of several turns counts.
+ * ratio of the two. The two take turns, and the best of several turns counts. All go by rule 2.
  *
  *   bench [MOST STEPS]
+ *
+ * host/places compiles it with -DWITHOUT_RULE for an archive of ASBRU_VERSION 1 or 2, whose functions take no rule. Such an archive knows
+ * rule 1 only, and here the two agree: no plan is named, and all wait numbers are 0.
  */
 #define _POSIX_C_SOURCE 199309L
 #include <stdio.h>
@@ -76,12 +79,31 @@ static void make_words(uint8_t *words, unsigned n, const uint16_t *parents) {
     }
 }
 
-typedef uint64_t Step(const uint8_t *, size_t, uint8_t *, size_t, const uint8_t *, size_t);
-typedef uint64_t Check(const uint8_t *, size_t, const uint8_t *, size_t);
+typedef uint64_t Step(uint32_t, const uint8_t *, size_t, uint8_t *, size_t, const uint8_t *, size_t);
+typedef uint64_t Check(uint32_t, const uint8_t *, size_t, const uint8_t *, size_t);
+
+#ifdef WITHOUT_RULE
+uint64_t old_step(const uint8_t *, size_t, uint8_t *, size_t, const uint8_t *, size_t) __asm__("asbru_step");
+uint64_t old_check(const uint8_t *, size_t, const uint8_t *, size_t) __asm__("asbru_check");
+
+static uint64_t library_step(uint32_t rule, const uint8_t *t, size_t t_length, uint8_t *s, size_t s_length, const uint8_t *w,
+                             size_t w_length) {
+    (void)rule;
+    return old_step(t, t_length, s, s_length, w, w_length);
+}
+
+static uint64_t library_check(uint32_t rule, const uint8_t *t, size_t t_length, const uint8_t *r, size_t r_length) {
+    (void)rule;
+    return old_check(t, t_length, r, r_length);
+}
+#else
+#define library_step asbru_step
+#define library_check asbru_check
+#endif
 
 static double time_check(Check *check, const uint8_t *table, unsigned n, const uint8_t *record, unsigned steps) {
     double begun = nanoseconds();
-    uint64_t answer = check(table, 8 + 8 * (size_t)n, record, 8 + 5 * (size_t)n * steps);
+    uint64_t answer = check(ASBRU_RULE_2, table, 8 + 8 * (size_t)n, record, 8 + 5 * (size_t)n * steps);
     double took = nanoseconds() - begun;
     need(answer == (uint64_t)steps << 32, "a record is not accepted");
     return took;
@@ -92,7 +114,7 @@ static double time_step(Step *step, const uint8_t *table, unsigned n, const uint
     uint8_t states[MOST_PLANS] = {0};
     double begun = nanoseconds();
     for (unsigned i = 0; i < steps; i++) {
-        uint64_t answer = step(table, 8 + 8 * (size_t)n, states, n, record + 8 + 5 * (size_t)n * i, 4 * (size_t)n);
+        uint64_t answer = step(ASBRU_RULE_2, table, 8 + 8 * (size_t)n, states, n, record + 8 + 5 * (size_t)n * i, 4 * (size_t)n);
         need(answer == 0, "a step is refused");
     }
     return nanoseconds() - begun;
@@ -113,15 +135,15 @@ static void measure(unsigned n, unsigned steps) {
     for (unsigned i = 0; i < steps; i++) {
         uint8_t *words = record + 8 + 5 * (size_t)n * i;
         make_words(words, n, parents);
-        need(plain_step(table, 8 + 8 * (size_t)n, states, n, words, 4 * (size_t)n) == 0, "a step is refused");
+        need(plain_step(ASBRU_RULE_2, table, 8 + 8 * (size_t)n, states, n, words, 4 * (size_t)n) == 0, "a step is refused");
         memcpy(words + 4 * (size_t)n, states, n);
     }
     double check = 1e18, plain = 1e18, step = 1e18, plain_one = 1e18;
     unsigned calls = steps < 2000 ? steps : 2000;
     for (int turn = 0; turn < TURNS; turn++) {
-        check = least(check, time_check(asbru_check, table, n, record, steps));
+        check = least(check, time_check(library_check, table, n, record, steps));
         plain = least(plain, time_check(plain_check, table, n, record, steps));
-        step = least(step, time_step(asbru_step, table, n, record, calls));
+        step = least(step, time_step(library_step, table, n, record, calls));
         plain_one = least(plain_one, time_step(plain_step, table, n, record, calls));
     }
     double plans = (double)n * steps, moved = (double)n * calls;

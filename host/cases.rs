@@ -4,7 +4,7 @@
 //! to. Most calls go on from one of them; some spoil a table, states, words or a record first. All
 //! choices come from one seeded `Dice`, so a seed and a call's number name a call for good.
 
-use crate::reference::{self, Plan};
+use crate::reference::{self, Before, Plan, Rule};
 
 // ------------------------------------------------------------------------------------------------
 // Dice
@@ -67,6 +67,7 @@ pub enum Kind {
 #[derive(Clone)]
 pub struct Call {
     pub kind: Kind,
+    pub rule: u32,
     pub table: Vec<u8>,
     /// Empty for a check.
     pub states: Vec<u8>,
@@ -83,11 +84,32 @@ impl Call {
     pub fn ask_reference(&self) -> (reference::Answer, Vec<u8>) {
         let mut states = self.states.clone();
         let answer = match self.kind {
-            Kind::Step => reference::step(&self.table, &mut states, &self.words),
-            Kind::Rest => reference::rest_jumping(&self.table, &mut states, &self.words, self.budget),
-            Kind::Check => reference::check(&self.table, &self.words),
+            Kind::Step => reference::step(self.rule, &self.table, &mut states, &self.words),
+            Kind::Rest => reference::rest_jumping(self.rule, &self.table, &mut states, &self.words, self.budget),
+            Kind::Check => reference::check(self.rule, &self.table, &self.words),
         };
         (answer, states)
+    }
+
+    /// The same call by another rule.
+    pub fn by(&self, rule: u32) -> Call {
+        Call { rule, ..self.clone() }
+    }
+}
+
+/// The rules there are, by their numbers.
+pub const RULES: [(u32, Rule); 2] = [(1, Rule::Old), (2, Rule::New)];
+
+/// Numbers of no rule: those beside the two, and some that would pass where only a part of the number is read, or its sign.
+pub const WRONG_RULES: [u32; 8] = [0, 3, u32::MAX, 257, 258, 65_537, 65_538, (1 << 31) + 1];
+
+/// One of these, or any other; half of the others end in 1 or 2 as 16 bits.
+fn wrong_rule(dice: &mut Dice) -> u32 {
+    let any = dice.roll() as u32 | 1 << 16;
+    match dice.below(WRONG_RULES.len() + 2) {
+        0 => any,
+        1 => any & !0xFFFF | dice.between(1, 2) as u32,
+        at => WRONG_RULES[at - 2],
     }
 }
 
@@ -174,6 +196,8 @@ struct Style {
     complete: usize,
     manual: usize,
     overridable: usize,
+    /// Of the root: that it has no condition but complete.
+    plain_root: usize,
     /// How high m tends to be.
     wait: Wait,
 }
@@ -197,6 +221,7 @@ const GENTLE: Style = Style {
     complete: 0,
     manual: 0,
     overridable: 0,
+    plain_root: 0,
     wait: Wait::All,
 };
 
@@ -209,6 +234,23 @@ fn style_of_turns(dice: &mut Dice) -> Style {
         wait: dice.one_of(&[Wait::Zero, Wait::Zero, Wait::Low]),
         present: dice.one_of(&[30, 100]),
         manual: 0,
+        ..any_style(dice)
+    }
+}
+
+/// Plans that need most of their children, many of them with retry-aborted, and that go on until they are told to complete.
+fn style_of_losses(dice: &mut Dice) -> Style {
+    Style {
+        body: None,
+        for_two: 0,
+        retry: dice.one_of(&[0, 50, 100, 100]),
+        named: dice.one_of(&[70, 100]),
+        present: dice.one_of(&[30, 60, 100]),
+        complete: 100,
+        manual: 0,
+        overridable: 0,
+        plain_root: 30,
+        wait: dice.one_of(&[Wait::Any, Wait::All, Wait::All]),
         ..any_style(dice)
     }
 }
@@ -232,6 +274,7 @@ fn any_style(dice: &mut Dice) -> Style {
         complete: dice.one_of(&[0, 50, 100]),
         manual: dice.one_of(&[0, 0, 30, 100]),
         overridable: dice.one_of(&[0, 0, 30, 100]),
+        plain_root: 70,
         wait: dice.one_of(&[Wait::Zero, Wait::Low, Wait::Any, Wait::All]),
     }
 }
@@ -282,7 +325,7 @@ fn table_of(dice: &mut Dice, parents: &[usize], style: &Style) -> Vec<u8> {
             present |= 1 << reference::COMPLETE;
         }
         // A root that is not selected or is ended early would leave nothing to see below it.
-        if p == 0 && dice.percent(70) {
+        if p == 0 && dice.percent(style.plain_root) {
             present &= 1 << reference::COMPLETE;
         }
         table.extend((parents[p] as u16).to_le_bytes());
@@ -332,6 +375,33 @@ fn table_of_turns(dice: &mut Dice) -> Vec<u8> {
     let parents = parents(dice, n, Shape::Twos, 2);
     let style = style_of_turns(dice);
     table_of(dice, &parents, &style)
+}
+
+/// A small table of plans that could lose their children: leaves, some of which are slowly selected, wait to be aborted or completed; the
+/// others can be suspended, and few of them aborted.
+fn table_of_losses(dice: &mut Dice) -> Vec<u8> {
+    let n = dice.between(3, 9);
+    let shape = dice.one_of(&[Shape::Bushy, Shape::Mixed, Shape::Twos]);
+    let parents = parents(dice, n, shape, reference::MOST_CHILDREN);
+    let style = style_of_losses(dice);
+    let mut table = table_of(dice, &parents, &style);
+    for entry in table[HEADER..].chunks_exact_mut(ENTRY) {
+        let selection = 1 << reference::FILTER | 1 << reference::SETUP;
+        let (present, absent): (u8, u8) = match (entry[2], dice.below(10)) {
+            (_, 0) => (0, 0),
+            (reference::LEAF, 1..=4) => (1 << reference::ABORT | selection, 0),
+            (reference::LEAF, _) => (1 << reference::ABORT, selection),
+            _ => (1 << reference::SUSPEND, 1 << reference::ABORT | selection),
+        };
+        entry[4] |= present | 1 << reference::COMPLETE;
+        entry[4..7].iter_mut().for_each(|conditions| *conditions &= !absent);
+    }
+    table
+}
+
+/// Whether the two rules could differ on a plan: it retries and waits for some of its children.
+pub fn may_part_the_rules(plan: &Plan) -> bool {
+    plan.flags >> reference::RETRY_ABORTED & 1 == 1 && plan.wait_number > 0
 }
 
 fn read_good_table(table: &[u8]) -> Vec<Plan> {
@@ -448,6 +518,7 @@ pub fn mood(dice: &mut Dice) -> Mood {
 
 const INTERRUPTED: usize = 2;
 const ABORTING: usize = 3;
+const LOSING: usize = 8;
 
 fn mood_of(number: usize) -> Mood {
     let (satisfied, satisfiable, triggered, overridden) = match number {
@@ -463,6 +534,8 @@ fn mood_of(number: usize) -> Mood {
         5 => ([0, 0, 0, 0, 0, 0], 95, 0, 0),
         // Anything.
         6 => ([50; 6], 70, 50, 50),
+        // Slow selection, interruptions, few ends.
+        LOSING => ([50, 50, 25, 60, 5, 5], 99, 80, 5),
         // By hand.
         _ => ([60, 60, 10, 40, 5, 30], 80, 40, 40),
     };
@@ -657,20 +730,33 @@ fn spoil_siblings(dice: &mut Dice, states: &mut Vec<u8>, plans: &[Plan]) {
 // Records
 // ------------------------------------------------------------------------------------------------
 
-/// A good record of so many steps: random words and picks, and the pick bits cleared afterwards.
-fn good_record(dice: &mut Dice, plans: &[Plan], steps: usize) -> Vec<u8> {
+/// What a record is to tell of: of a body for two that its turns come, of a plan that needs its children that it loses some.
+#[derive(Clone, Copy)]
+enum Story {
+    Any,
+    Turns,
+    Losses,
+}
+
+/// A good record of so many steps by a rule: random words and picks, and the pick bits cleared afterwards.
+fn good_record(dice: &mut Dice, rule: Rule, plans: &[Plan], story: Story, steps: usize) -> Vec<u8> {
     let mut record = header(b"APR", plans.len());
     let mut states = vec![reference::INACTIVE; plans.len()];
-    // Where a body for two is at the top, its turns are to come.
-    let turns = reference::is_for_two(plans[0].body) && dice.percent(70);
-    let next_mood = |dice: &mut Dice| if turns { mood_of(dice.one_of(&[INTERRUPTED, ABORTING])) } else { mood(dice) };
+    let next_mood = |dice: &mut Dice| match story {
+        Story::Any => mood(dice),
+        Story::Turns => mood_of(dice.one_of(&[INTERRUPTED, ABORTING])),
+        Story::Losses => mood_of(LOSING),
+    };
     let mut temper = next_mood(dice);
     for _ in 0..steps {
         if dice.percent(10) {
             temper = next_mood(dice);
         }
-        let words = good_words(dice, plans, &temper);
-        states = reference::new_states(&reference::Before { plans, states: &states, words: &words });
+        let mut words = good_words(dice, plans, &temper);
+        if matches!(story, Story::Losses) {
+            strike(dice, plans, &states, &mut words);
+        }
+        states = reference::new_states(&Before { rule, plans, states: &states, words: &words });
         let without_picks: Vec<u32> = words.iter().map(|&word| with_pick(word, 0)).collect();
         record.extend(bytes_of_words(&without_picks));
         record.extend(&states);
@@ -678,11 +764,46 @@ fn good_record(dice: &mut Dice, plans: &[Plan], steps: usize) -> Vec<u8> {
     record
 }
 
+/// At times all goes wrong at once for a leaf in execution and its siblings: those in execution are aborted, and those in selection, if
+/// there are any, are rejected.
+fn strike(dice: &mut Dice, plans: &[Plan], states: &[u8], words: &mut [u32]) {
+    let at_work = |&p: &usize| plans[p].body == reference::LEAF && reference::in_execution(states[p]);
+    let parents: Vec<usize> = (0..plans.len()).filter(at_work).filter_map(|p| plans[p].parent).collect();
+    if parents.is_empty() {
+        return;
+    }
+    let children = &plans[dice.one_of(&parents)].children;
+    let some_in_selection = children.iter().any(|&child| reference::in_selection(states[child]));
+    if !dice.percent(if some_in_selection { 50 } else { 20 }) {
+        return;
+    }
+    for &child in children {
+        if reference::in_execution(states[child]) {
+            words[child] |= 1 << reference::ABORT;
+        } else {
+            // filter and setup: not satisfied, not satisfiable, not overridden
+            words[child] &= !(3 | 3 << 6 | 3 << 14);
+        }
+    }
+}
+
+/// What stands before each step of a record that is accepted by a rule, and the states that it shows.
+pub fn for_each_step(rule: Rule, plans: &[Plan], record: &[u8], mut look: impl FnMut(&Before, &[u8])) {
+    let n = plans.len();
+    let inactive = vec![reference::INACTIVE; n];
+    let mut states: &[u8] = &inactive;
+    for part in record[HEADER..].chunks_exact(5 * n) {
+        let (words, shown) = part.split_at(4 * n);
+        look(&Before { rule, plans, states, words: &reference::read_words(words) }, shown);
+        states = shown;
+    }
+}
+
 fn record_steps(dice: &mut Dice, n: usize) -> usize {
     match dice.below(100) {
         0..=3 => 0,
-        4..=29 => dice.between(1, 8),
-        30..=97 => dice.between(9, 40),
+        4..=19 => dice.between(1, 8),
+        20..=97 => dice.between(9, 40),
         _ if n <= 12 => dice.between(41, 300),
         _ => 1,
     }
@@ -841,11 +962,19 @@ impl Maker {
     }
 
     pub fn next_call(&mut self) -> Call {
-        match self.dice.below(100) {
+        let mut call = match self.dice.below(100) {
             0..=54 => self.step_call(),
             55..=74 => self.rest_call(),
             _ => self.check_call(),
+        };
+        if self.dice.percent(4) {
+            call.rule = wrong_rule(&mut self.dice);
+            call.continues = None;
+            // Of what else is wrong with it each number comes up, and not only what is met often.
+            let number = self.dice.one_of(&numbers_of(call.kind));
+            spoil_for(&mut self.dice, number, &mut call);
         }
+        call
     }
 
     /// The situation that the call came from goes on with the states that the reference gave.
@@ -865,8 +994,10 @@ impl Maker {
     }
 
     fn step_call(&mut self) -> Call {
-        if self.dice.percent(20) {
-            return turning_call(&mut self.dice);
+        match self.dice.below(100) {
+            0..=19 => return turning_call(&mut self.dice),
+            20..=34 => return losing_call(&mut self.dice),
+            _ => {}
         }
         let chosen = self.dice.below(POOL);
         let mut call = self.good_call(Kind::Step, chosen);
@@ -919,32 +1050,34 @@ impl Maker {
     fn check_call(&mut self) -> Call {
         if self.dice.below(1500) == 0 {
             let (table, record) = longest_record(&mut self.dice);
-            return Call {
-                kind: Kind::Check,
-                table,
-                states: vec![],
-                words: record,
-                budget: 0,
-                continues: None,
-            };
+            return check_of(any_rule(&mut self.dice).0, table, record);
         }
         let dice = &mut self.dice;
         let n = plan_count(dice);
-        let mut table = if dice.percent(30) { table_of_turns(dice) } else { good_table(dice, n) };
+        let (mut table, story) = match dice.below(100) {
+            0..=29 => (table_of_turns(dice), Story::Turns),
+            30..=59 => (table_of_losses(dice), Story::Losses),
+            _ => (good_table(dice, n), Story::Any),
+        };
+        let story = if dice.percent(80) { story } else { Story::Any };
         let plans = read_good_table(&table);
-        let steps = record_steps(&mut self.dice, plans.len());
-        let mut record = good_record(&mut self.dice, &plans, steps);
-        match self.dice.below(100) {
+        let (rule, kept_by) = any_rule(dice);
+        let steps = record_steps(dice, plans.len());
+        let mut record = good_record(dice, kept_by, &plans, story, steps);
+        match dice.below(100) {
             0..=24 => {}
-            25..=84 => spoil_record(&mut self.dice, &mut record, &plans),
+            // What only one rule gives is seen in whole records.
+            25..=59 if matches!(story, Story::Losses) => {}
+            25..=84 => spoil_record(dice, &mut record, &plans),
             85..=94 => {
-                for _ in 0..self.dice.between(2, 3) {
-                    spoil_record(&mut self.dice, &mut record, &plans);
+                for _ in 0..dice.between(2, 3) {
+                    spoil_record(dice, &mut record, &plans);
                 }
             }
-            _ => spoil_table(&mut self.dice, &mut table),
+            _ => spoil_table(dice, &mut table),
         }
-        Call { kind: Kind::Check, table, states: vec![], words: record, budget: 0, continues: None }
+        // Some are judged by the rule that they were not kept by.
+        check_of(if dice.percent(25) { 3 - rule } else { rule }, table, record)
     }
 
     /// A call on the chosen situation that is not refused.
@@ -954,6 +1087,7 @@ impl Maker {
         let mood = if dice.percent(20) { mood(dice) } else { situation.mood.clone() };
         Call {
             kind,
+            rule: any_rule(dice).0,
             table: situation.table.clone(),
             states: situation.states.clone(),
             words: bytes_of_words(&good_words(dice, &situation.plans, &mood)),
@@ -963,13 +1097,23 @@ impl Maker {
     }
 }
 
+pub fn any_rule(dice: &mut Dice) -> (u32, Rule) {
+    dice.one_of(&RULES)
+}
+
+pub fn check_of(rule: u32, table: Vec<u8>, record: Vec<u8>) -> Call {
+    Call { kind: Kind::Check, rule, table, states: vec![], words: record, budget: 0, continues: None }
+}
+
 /// A run that mostly goes round in a circle: leaves that are aborted and retried again and again, and
-/// above them only plans that cannot complete.
+/// above them only plans that cannot complete. Where these need all their children, it is so by rule 2 only.
 fn restless_call(dice: &mut Dice) -> Call {
     let n = dice.between(2, 4);
     let mut table = good_table(dice, n);
     let mut words = Vec::new();
-    for (p, plan) in read_good_table(&table).iter().enumerate() {
+    let plans = read_good_table(&table);
+    let needed = dice.percent(50);
+    for (p, plan) in plans.iter().enumerate() {
         let entry = &mut table[HEADER + ENTRY * p..HEADER + ENTRY * (p + 1)];
         entry[5] = 0;
         entry[6] = 0;
@@ -978,15 +1122,20 @@ fn restless_call(dice: &mut Dice) -> Call {
             entry[4] = 1 << reference::ABORT;
             words.push(1 << reference::ABORT);
         } else {
-            entry[3] |= u8::from(!reference::is_for_two(plan.body)) << reference::RETRY_ABORTED;
+            let retries = !reference::is_for_two(plan.body);
+            entry[3] |= u8::from(retries) << reference::RETRY_ABORTED;
             entry[4] = 1 << reference::COMPLETE;
+            if needed && retries {
+                entry[7] = reference::named_children(&plans, p) as u8;
+            }
             let any_order = plan.body == reference::ANY_ORDER;
             words.push(with_pick(0, if any_order { dice.below(plan.children.len()) } else { 0 }));
         }
     }
     let budget = if dice.percent(50) { 65_535 } else { dice.between(0, 2000) as u16 };
     let states = vec![reference::INACTIVE; n];
-    Call { kind: Kind::Rest, table, states, words: bytes_of_words(&words), budget, continues: None }
+    let rule = any_rule(dice).0;
+    Call { kind: Kind::Rest, rule, table, states, words: bytes_of_words(&words), budget, continues: None }
 }
 
 /// A step of plans with bodies for two that are Activated, over children in states that these bodies tell apart; at times all are told to
@@ -1005,7 +1154,19 @@ fn turning_call(dice: &mut Dice) -> Call {
         1 => spoil_siblings(dice, &mut states, &plans),
         _ => {}
     }
-    Call { kind: Kind::Step, table, states, words, budget: 0, continues: None }
+    Call { kind: Kind::Step, rule: any_rule(dice).0, table, states, words, budget: 0, continues: None }
+}
+
+/// A step of plans in execution, most of which retry, over children that have mostly ended badly.
+fn losing_call(dice: &mut Dice) -> Call {
+    let table = table_of_losses(dice);
+    let plans = read_good_table(&table);
+    let of_leaves = dice.one_of(&[[7, 7, 3, 6], [7, 7, 0, 5], [7, 8, 7, 6], [7, 4, 3, 0]]);
+    let of_others = dice.one_of(&[[4, 4, 4, 4], [4, 4, 5, 7], [5, 5, 5, 4]]);
+    let states = likely_states(dice, &plans, &of_leaves, &of_others);
+    let mood = mood_of(dice.one_of(&[INTERRUPTED, LOSING]));
+    let words = bytes_of_words(&good_words(dice, &plans, &mood));
+    Call { kind: Kind::Step, rule: any_rule(dice).0, table, states, words, budget: 0, continues: None }
 }
 
 /// A long run to rest: down a deep tree and up again.
@@ -1014,15 +1175,17 @@ fn long_call(dice: &mut Dice) -> Call {
     let parents = parents(dice, n, Shape::Deep, reference::MOST_CHILDREN);
     let table = table_of(dice, &parents, &GENTLE);
     let budget = dice.one_of(&[65_535, 65_535, 1000, 6 * n, 4 * n]) as u16;
-    Call { kind: Kind::Rest, table, states: vec![0; n], words: vec![0; 4 * n], budget, continues: None }
+    let (rule, _) = any_rule(dice);
+    Call { kind: Kind::Rest, rule, table, states: vec![0; n], words: vec![0; 4 * n], budget, continues: None }
 }
 
 /// A new table, all plans Inactive or further on; on big tables mostly further on, for it would take
 /// hundreds of calls to get down to their leaves.
 fn fresh_situation(dice: &mut Dice) -> Situation {
     let n = plan_count(dice);
-    let table = good_table(dice, n);
+    let table = if dice.percent(10) { table_of_losses(dice) } else { good_table(dice, n) };
     let plans = read_good_table(&table);
+    let n = plans.len();
     let far = if n > 12 { 70 } else { 30 };
     let states = if dice.percent(far) { good_states(dice, &plans) } else { vec![reference::INACTIVE; n] };
     let mood = mood(dice);
@@ -1039,6 +1202,53 @@ fn spoil_call(dice: &mut Dice, call: &mut Call, plans: &[Plan]) {
             4..=6 => spoil_states(dice, &mut call.states, plans),
             _ => spoil_words(dice, &mut call.words, plans),
         }
+    }
+}
+
+/// The numbers that a call with a good rule can be answered with: checks 1 to 9 are the table's, 10 to 12 of a step and a run, 12 to 15
+/// of a record.
+pub fn numbers_of(kind: Kind) -> Vec<u64> {
+    if kind == Kind::Check {
+        (0..=9).chain(12..=15).collect()
+    } else {
+        (0..=12).collect()
+    }
+}
+
+/// Spoils a call in one place: a rule answers it with this number, if it was good.
+fn spoil_for(dice: &mut Dice, number: u64, call: &mut Call) {
+    let Call { table, states, words, .. } = call;
+    let start = if call.kind == Kind::Check { HEADER } else { 0 };
+    match number {
+        0 => {}
+        1 => table.truncate(dice.below(HEADER)),
+        2 => flip(table, dice.below(3), 0),
+        3 => flip(table, dice.between(3, 4), 1),
+        4 => flip(table, 7, 0),
+        5 => spoil_length(dice, table),
+        6 => flip(table, HEADER, 0),
+        7 => flip(table, HEADER + dice.between(3, 6), 7),
+        8 => flip(table, HEADER + 3, reference::NAMED),
+        9 => flip(table, HEADER + 7, 7),
+        10 => {
+            let either = if dice.percent(50) { states } else { words };
+            spoil_slice_length(dice, either);
+        }
+        11 => flip(states, 0, 4),
+        12 => flip(words, start + 3, 7),
+        13 => flip(words, dice.below(HEADER), 0),
+        14 => words.push(0),
+        _ => {
+            let last = words.len().saturating_sub(1);
+            flip(words, last, 0);
+        }
+    }
+}
+
+/// Changes a bit, if the bytes are that many.
+fn flip(bytes: &mut [u8], at: usize, bit: u32) {
+    if let Some(byte) = bytes.get_mut(at) {
+        *byte ^= 1 << bit;
     }
 }
 

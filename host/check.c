@@ -1,7 +1,7 @@
 /*
  * The inspector's command, as ../check starts it once all is built: whether treatment records can come from the rules under a plan table.
- * NOT PROVED: it looks at the two files apart, hands them to the proved program `aprcheck` or, where they are too long for it, to the
- * proved function asbru_check, and says in words what the answer means. USAGE below is its manual.
+ * NOT PROVED: it looks at the two files apart, hands them to the proved program `aprcheck` or, where they are too long for it or go by
+ * rule 1, to the proved function asbru_check, and says in words what the answer means. USAGE below is its manual.
  *
  *   check APRCHECK ARGUMENT..    APRCHECK is the command that runs the program
  */
@@ -19,14 +19,14 @@
 #include "files.h"
 
 static const char USAGE[] =
-    "usage: check TABLE RECORD\n"
-    "       check --all [--csv] TABLE FOLDER\n"
+    "usage: check [--rule 1|2] TABLE RECORD\n"
+    "       check [--rule 1|2] --all [--csv] TABLE FOLDER\n"
     "       check --help\n";
 
 static const char HELP[] =
     "\n"
     "Settles whether a treatment record (a file with the mark APR) can come from the rules under a plan table (mark APT).\n"
-    "It prints the line of the program aprcheck, and then one line in words:\n"
+    "It prints a line as the program aprcheck does, and then one line in words:\n"
     "\n"
     "  accepted PLANS STEPS        for every step some picks lead to the states shown\n"
     "  refused NUMBER STEP PLAN    NUMBER says why: docs/RULES.md, paragraph 10.NUMBER. STEP and PLAN say where, 0 where\n"
@@ -36,8 +36,13 @@ static const char HELP[] =
     "dot are passed over, which standard error tells, and so is the table itself. --csv writes the same for a spreadsheet,\n"
     "with the count on standard error. Bytes of a name that do not print are shown as \\xNN.\n"
     "\n"
-    "Where table and record together have more than 65,536 bytes, which is more than the program takes, the library's\n"
-    "function asbru_check judges them; the words say which of the two it was.\n"
+    "--rule 1 is for records that were kept before rule 2 came; without it, or with --rule 2, a record goes by rule 2. They\n"
+    "differ in one thing: where a plan retries what is aborted, and a sub plan that it waits for is Aborted, rule 1 counts\n"
+    "that sub plan as lost, and the plan aborts before any retry; rule 2 does not. Which rule a record was kept by is not in\n"
+    "the record: ask whoever kept it. A record that one rule refuses is not tried by the other. The words name the rule.\n"
+    "\n"
+    "The program goes by rule 2 and takes 65,536 bytes, table and record together. By rule 1, and where there are more bytes,\n"
+    "the library's function asbru_check judges. The words say which of the two it was.\n"
     "\n"
     "Exit status: 0 accepted, 1 refused, 2 not judged. A file that cannot be read, or is no table or record at all, is not\n"
     "judged: standard error then names it and says what is wrong with it. Only regular files are read. Of a folder: 2 if a\n"
@@ -54,6 +59,12 @@ typedef struct {
     uint8_t *bytes;
     size_t length;
 } File;
+
+/* What records are judged by: the command that runs the program, and the number of the rule. */
+typedef struct {
+    char *program;
+    uint32_t rule;
+} Means;
 
 /* What came of one pair. Accepted: plan has the number of plans, step that of steps. Refused: number, step and plan. */
 typedef struct {
@@ -196,12 +207,15 @@ static int run_program(char *program, const File *table, const File *record, cha
     return waitpid(child, &status, 0) == child && status == 0 && given && got == 0;
 }
 
-/* Whether an answer can be about these files: what it counts is so, and what it names is there. */
+/*
+ * Whether an answer of the program can be about these files: what it counts is so, and what it names is there. Its last number is 15 here:
+ * it is handed no more bytes than it takes (16), and names its rule itself (17).
+ */
 static int is_about(const File *table, const File *record, const Result *result) {
     size_t n = plans_of(table), steps = n ? (record->length - ASBRU_HEADER) / asbru_step_size(n) : 0;
     if (result->verdict == ACCEPTED) return result->plan == n && result->step == steps;
     int names_step = result->number == ASBRU_REFUSED_WORD || result->number == ASBRU_REFUSED_UNEXPLAINED;
-    return result->number >= ASBRU_REFUSED_TABLE_SHORT && result->number <= ASBRU_REFUSED_INPUT_LONG &&
+    return result->number >= ASBRU_REFUSED_TABLE_SHORT && result->number <= ASBRU_REFUSED_UNEXPLAINED &&
            (result->plan == 0 || result->plan < n) && (names_step ? result->step >= 1 && result->step <= steps : result->step == 0);
 }
 
@@ -212,8 +226,8 @@ static void judge_by_program(char *program, const File *table, const File *recor
     say(result, "the program aprcheck printed no verdict");
 }
 
-static void judge_by_library(const File *table, const File *record, Result *result) {
-    uint64_t answer = asbru_check(table->bytes, table->length, record->bytes, record->length);
+static void judge_by_library(uint32_t rule, const File *table, const File *record, Result *result) {
+    uint64_t answer = asbru_check(rule, table->bytes, table->length, record->bytes, record->length);
     result->by_library = 1;
     result->number = asbru_number(answer);
     result->step = asbru_step_of(answer);
@@ -331,7 +345,13 @@ static void explain_refusal(Result *result, const File *table, const File *recor
     }
 }
 
-static void explain(Result *result, const File *table, const File *record) {
+/* Which of the two judged, and why it was not the program. */
+static const char *judge_of(uint32_t rule, const Result *result) {
+    if (!result->by_library) return "aprcheck";
+    return rule == ASBRU_RULE_2 ? "asbru_check, being over the program's 65,536 bytes" : "asbru_check, as aprcheck goes by rule 2";
+}
+
+static void explain(Result *result, uint32_t rule, const File *table, const File *record) {
     if (result->verdict == ACCEPTED && result->step == 0) {
         say(result, "the record is of good form and has no steps");
     } else if (result->verdict == ACCEPTED) {
@@ -339,20 +359,19 @@ static void explain(Result *result, const File *table, const File *record) {
     } else {
         explain_refusal(result, table, record);
     }
-    say(result, " [RULES 10.%u; judged by %s]", result->number,
-        result->by_library ? "asbru_check, being over the program's 65,536 bytes" : "aprcheck");
+    say(result, " [RULES 10.%u; rule %u; judged by %s]", result->number, (unsigned)rule, judge_of(rule, result));
 }
 
 /* All of one pair, the table having been looked at. */
-static Result judge(char *program, const File *table, const File *record) {
+static Result judge(const Means *means, const File *table, const File *record) {
     Result result = NOTHING;
     if (!begins_as_record(record, &result)) return result;
-    if (table->length + record->length <= PROGRAM_TAKES) {
-        judge_by_program(program, table, record, &result);
+    if (means->rule == ASBRU_RULE_2 && table->length + record->length <= PROGRAM_TAKES) {
+        judge_by_program(means->program, table, record, &result);
     } else {
-        judge_by_library(table, record, &result);
+        judge_by_library(means->rule, table, record, &result);
     }
-    if (result.verdict != NOT_JUDGED) explain(&result, table, record);
+    if (result.verdict != NOT_JUDGED) explain(&result, means->rule, table, record);
     return result;
 }
 
@@ -431,7 +450,7 @@ static int is_good_table(File *table, Result *result) {
     return table->bytes && begins_as_table(table, result) && has_its_length(table, result);
 }
 
-static int check_pair(char *program, const char *table_name, const char *record_name) {
+static int check_pair(const Means *means, const char *table_name, const char *record_name) {
     File table = {table_name, NULL, 0}, record = {record_name, NULL, 0};
     Result of_table = NOTHING, result = NOTHING;
     int good_table = is_good_table(&table, &of_table);
@@ -441,7 +460,7 @@ static int check_pair(char *program, const char *table_name, const char *record_
     }
     if (!good_table) complain(table_name, of_table.words);
     if (record.bytes && good_table) {
-        result = judge(program, &table, &record);
+        result = judge(means, &table, &record);
     } else if (record.bytes) {
         begins_as_record(&record, &result);
     }
@@ -474,26 +493,26 @@ static int is_shown(const struct dirent *entry) {
 }
 
 /* Judges one file of a folder. */
-static Result judge_file(char *program, const File *table, const char *path) {
+static Result judge_file(const Means *means, const File *table, const char *path) {
     Result result = NOTHING;
     File record = {path, NULL, 0};
     load(&record, &result);
-    if (record.bytes) result = judge(program, table, &record);
+    if (record.bytes) result = judge(means, table, &record);
     free(record.bytes);
     return result;
 }
 
-/* Whether the table passes: an empty record is then the first thing wrong. */
+/* Whether the table passes, which no rule has a say in: an empty record is then the first thing wrong. */
 static int passes(const File *table, Result *result) {
     File none = {"", NULL, 0};
-    judge_by_library(table, &none, result);
+    judge_by_library(ASBRU_RULE_2, table, &none, result);
     if (result->number == ASBRU_REFUSED_RECORD_HEADER) return 1;
     explain_table(result, table);
     return 0;
 }
 
 /* Judges what stands in a folder, in the order of the names, each line being told at once. */
-static void check_files(char *program, const File *table, const char *folder, struct dirent **entries, int count, int csv,
+static void check_files(const Means *means, const File *table, const char *folder, struct dirent **entries, int count, int csv,
                         unsigned counts[VERDICTS]) {
     for (int k = 0; k < count; k++) {
         char path[PATH_ROOM];
@@ -501,7 +520,7 @@ static void check_files(char *program, const File *table, const char *folder, st
         if (is_same_file(path, table->name)) continue;
         Result result = NOTHING;
         if (length < PATH_ROOM) {
-            result = judge_file(program, table, path);
+            result = judge_file(means, table, path);
         } else {
             say(&result, "the name is too long");
         }
@@ -511,7 +530,7 @@ static void check_files(char *program, const File *table, const char *folder, st
     }
 }
 
-static int check_folder(char *program, const char *table_name, const char *folder, int csv) {
+static int check_folder(const Means *means, const char *table_name, const char *folder, int csv) {
     File table = {table_name, NULL, 0};
     Result of_table = NOTHING;
     if (!is_good_table(&table, &of_table) || !passes(&table, &of_table)) {
@@ -527,7 +546,7 @@ static int check_folder(char *program, const char *table_name, const char *folde
     }
     unsigned counts[VERDICTS] = {0};
     if (csv) puts("file,verdict,number,step,plan,plans,steps,in words");
-    check_files(program, &table, folder, entries, entry_count, csv, counts);
+    check_files(means, &table, folder, entries, entry_count, csv, counts);
     if (hidden_names > 0) fprintf(stderr, "check: %u name%s with a dot in front passed over\n", hidden_names, plural(hidden_names));
     fprintf(csv ? stderr : stdout, "%u accepted, %u refused, %u not judged\n", counts[ACCEPTED], counts[REFUSED], counts[NOT_JUDGED]);
     if (counts[ACCEPTED] + counts[REFUSED] + counts[NOT_JUDGED] == 0) complain(folder, "there is no file in this folder");
@@ -535,28 +554,67 @@ static int check_folder(char *program, const char *table_name, const char *folde
     return counts[REFUSED] > 0 ? REFUSED : ACCEPTED;
 }
 
-/* Says what is wrong with the call. */
-static int misused(const char *what, const char *word) {
-    fputs("check: ", stderr);
+/* ---- Reading the arguments ---- */
+
+/* What is asked for; the rule is 0 where none is named. The names are those of the table and of the record or folder. */
+typedef struct {
+    int all, csv;
+    uint32_t rule;
+    int name_count;
+    const char *names[2];
+} Call;
+
+/* Says what is wrong with the call; a word of it, if one is to be shown, stands between two texts. */
+static int misused(const char *before, const char *word, const char *after) {
+    fprintf(stderr, "check: %s", before);
     print_name(stderr, word);
-    fprintf(stderr, "%s\n%s", what, USAGE);
-    return NOT_JUDGED;
+    fprintf(stderr, "%s\n%s", after, USAGE);
+    return 0;
+}
+
+/* Takes the number of the rule. No other way to write it counts: what is judged by the wrong rule gets a wrong verdict. */
+static int take_rule(Call *call, const char *number) {
+    if (call->rule) return misused("--rule is given twice: there are rules 1 and 2, and a record goes by one of them", "", "");
+    if (!*number) return misused("--rule wants a number: there are rules 1 and 2", "", "");
+    call->rule = strcmp(number, "1") == 0 ? ASBRU_RULE_1 : strcmp(number, "2") == 0 ? ASBRU_RULE_2 : 0;
+    return call->rule || misused("--rule '", number, "': there are rules 1 and 2, and no other");
+}
+
+static int take_option(int *option, const char *word) {
+    if (*option) return misused("", word, " is given twice");
+    return *option = 1;
+}
+
+/* Takes a word that is no rule's number: an option, or a name. */
+static int take_word(Call *call, const char *word) {
+    if (strcmp(word, "--all") == 0) return take_option(&call->all, word);
+    if (strcmp(word, "--csv") == 0) return take_option(&call->csv, word);
+    if (word[0] == '-') return misused("", word, " is no option here (a file of that name is ./ and the name)");
+    if (call->name_count < 2) call->names[call->name_count] = word;
+    return ++call->name_count;
+}
+
+/* Whether the arguments are a call; if not, that is told. Options stand anywhere: no name begins with a dash. */
+static int read_call(Call *call, int count, char **arguments) {
+    for (int k = 0; k < count; k++) {
+        int is_rule = strcmp(arguments[k], "--rule") == 0;
+        k += is_rule;
+        if (!(is_rule ? take_rule(call, k < count ? arguments[k] : "") : take_word(call, arguments[k]))) return 0;
+    }
+    if (call->csv && !call->all) return misused("--csv is no option here: it goes with --all", "", "");
+    return call->name_count == 2 || misused(call->all ? "a table and a folder are wanted" : "a table and a record are wanted", "", "");
 }
 
 /* Follows the arguments; the status is the verdict. */
 static int follow(int count, char **arguments, char *program) {
-    const char *first = count > 0 ? arguments[0] : "";
-    if (count == 1 && (strcmp(first, "--help") == 0 || strcmp(first, "-h") == 0)) {
+    if (count == 1 && (strcmp(arguments[0], "--help") == 0 || strcmp(arguments[0], "-h") == 0)) {
         printf("%s%s", USAGE, HELP);
         return ACCEPTED;
     }
-    int all = strcmp(first, "--all") == 0;
-    int csv = all && count > 1 && strcmp(arguments[1], "--csv") == 0;
-    for (int k = all + csv; k < count; k++) {
-        if (arguments[k][0] == '-') return misused(" is no option here (a file of that name is ./ and the name)", arguments[k]);
-    }
-    if (count != all + csv + 2) return misused(all ? "a table and a folder are wanted" : "a table and a record are wanted", "");
-    return all ? check_folder(program, arguments[1 + csv], arguments[2 + csv], csv) : check_pair(program, first, arguments[1]);
+    Call call = {0, 0, 0, 0, {"", ""}};
+    if (!read_call(&call, count, arguments)) return NOT_JUDGED;
+    Means means = {program, call.rule ? call.rule : ASBRU_RULE_2};
+    return call.all ? check_folder(&means, call.names[0], call.names[1], call.csv) : check_pair(&means, call.names[0], call.names[1]);
 }
 
 /* A standard stream that is closed would be taken by the next file that is opened. */

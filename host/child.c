@@ -2,8 +2,8 @@
  * The library behind a pipe: reads calls from standard input, makes them, and writes what they answer and leave, for host/differ.rs to
  * compare. With the argument `plain` the calls go to host/plain.c instead. All numbers are little-endian.
  *
- *   call:   kind (1 byte: 1 step, 2 rest, 3 check), the lengths of table, states and words (4 bytes each; of a check the words are the
- *           record, and the states are empty), the budget (2 bytes), then the bytes of table, states and words
+ *   call:   kind (1 byte: 1 step, 2 rest, 3 check), the rule (4 bytes), the lengths of table, states and words (4 bytes each; of a check
+ *           the words are the record, and the states are empty), the budget (2 bytes), then the bytes of table, states and words
  *   answer: the answer (8 bytes), the states, and 1 if the bytes around all buffers are as they were, and those of table and words
  *
  * Each buffer is an allocation of its own that is just as long as its bytes and a guard on either side, so that a sanitizer or valgrind
@@ -68,15 +68,16 @@ static void drop(Buffer *b) {
 }
 
 typedef struct {
-    uint64_t (*step)(const uint8_t *, size_t, uint8_t *, size_t, const uint8_t *, size_t);
-    uint64_t (*rest)(const uint8_t *, size_t, uint8_t *, size_t, const uint8_t *, size_t, uint16_t);
-    uint64_t (*check)(const uint8_t *, size_t, const uint8_t *, size_t);
+    uint64_t (*step)(uint32_t, const uint8_t *, size_t, uint8_t *, size_t, const uint8_t *, size_t);
+    uint64_t (*rest)(uint32_t, const uint8_t *, size_t, uint8_t *, size_t, const uint8_t *, size_t, uint16_t);
+    uint64_t (*check)(uint32_t, const uint8_t *, size_t, const uint8_t *, size_t);
 } Calls;
 
 int main(int argc, char **argv) {
     static const Calls library = {asbru_step, asbru_rest, asbru_check}, plain = {plain_step, plain_rest, plain_check};
     const Calls *calls = argc > 1 && strcmp(argv[1], "plain") == 0 ? &plain : &library;
     for (int kind; (kind = getchar()) != EOF;) {
+        uint32_t rule = (uint32_t)number(4);
         size_t lengths[3];
         for (int k = 0; k < 3; k++) lengths[k] = (size_t)number(4);
         uint16_t budget = (uint16_t)number(2);
@@ -84,13 +85,13 @@ int main(int argc, char **argv) {
         uint64_t answer = 0;
         switch (kind) {
         case 1:
-            answer = calls->step(table.bytes, table.length, states.bytes, states.length, words.bytes, words.length);
+            answer = calls->step(rule, table.bytes, table.length, states.bytes, states.length, words.bytes, words.length);
             break;
         case 2:
-            answer = calls->rest(table.bytes, table.length, states.bytes, states.length, words.bytes, words.length, budget);
+            answer = calls->rest(rule, table.bytes, table.length, states.bytes, states.length, words.bytes, words.length, budget);
             break;
         case 3:
-            answer = calls->check(table.bytes, table.length, words.bytes, words.length);
+            answer = calls->check(rule, table.bytes, table.length, words.bytes, words.length);
             break;
         default:
             need(0, "no such call");

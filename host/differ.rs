@@ -5,9 +5,9 @@
 //! starts CHILD with ARGS, writes requests to its standard input and reads answers from its
 //! standard output. All numbers are little-endian.
 //!
-//!     request: u8 kind (1 step, 2 rest, 3 check); u32 length of the table, u32 of the states (0 for
-//!              a check), u32 of the words (for a check: of the record); u16 budget (0 unless rest);
-//!              the bytes of the table, of the states, of the words or record
+//!     request: u8 kind (1 step, 2 rest, 3 check); u32 rule; u32 length of the table, u32 of the
+//!              states (0 for a check), u32 of the words (for a check: of the record); u16 budget (0
+//!              unless rest); the bytes of the table, of the states, of the words or record
 //!     answer:  u64; the states, as many bytes as were sent; u8, 1 when the guard bytes around all
 //!              buffers of the child are intact
 //!
@@ -16,20 +16,23 @@
 //!
 //! Status 0: N calls were made without a difference and without a move that the rules do not allow,
 //! and, from `REACH_FROM` calls on or as many as `--reach-from` says, they reached every answer number
-//! 1 to 15, every move of a plan that the rules allow, and all that turns.rs wants of the bodies 5 to 8.
-//! Status 1: anything else.
+//! of the library's, every move of a plan that the rules allow, and all that turns.rs wants of the bodies
+//! 5 to 8 and losses.rs of the two rules. Status 1: anything else.
 
 mod cases;
+mod losses;
 mod reference;
 #[cfg(test)]
 mod self_test;
 mod turns;
 
 use cases::{hex, Call, Kind, Maker};
+use reference::Rule;
 use std::io::{self, BufReader, Read, Write};
 use std::process::{Child, ChildStdin, ChildStdout, Command, ExitCode, Stdio};
 use std::sync::mpsc::{self, RecvTimeoutError};
 use std::time::{Duration, Instant};
+use turns::Lines;
 
 fn main() -> ExitCode {
     let result = Options::from_arguments().and_then(|options| run(&options));
@@ -176,10 +179,11 @@ fn difference(asked: &Asked, reply: &Reply) -> Option<String> {
 fn report(seed: u64, asked: &Asked, what: &str) -> String {
     let call = &asked.call;
     format!(
-        "DIFFERENCE\nseed {seed}\ncall {}\nkind {} ({:?})\ntable {}\nstates {}\n{} {}\nbudget {}\n{what}",
+        "DIFFERENCE\nseed {seed}\ncall {}\nkind {} ({:?})\nrule {}\ntable {}\nstates {}\n{} {}\nbudget {}\n{what}",
         asked.number,
         kind_number(call.kind),
         call.kind,
+        call.rule,
         hex(&call.table),
         hex(&call.states),
         if call.kind == Kind::Check { "record" } else { "words" },
@@ -280,6 +284,7 @@ fn kind_number(kind: Kind) -> u8 {
 
 fn request(call: &Call) -> Vec<u8> {
     let mut bytes = vec![kind_number(call.kind)];
+    bytes.extend(call.rule.to_le_bytes());
     for part in [&call.table, &call.states, &call.words] {
         bytes.extend((part.len() as u32).to_le_bytes());
     }
@@ -341,7 +346,13 @@ fn find_the_call_that_stops_the_child(options: &Options, unanswered: &[Asked]) -
 const POSSIBLE_MOVES: [&[usize]; 9] =
     [&[0, 1], &[1, 2, 8], &[2, 3, 8], &[3, 4, 8], &[4, 5, 6, 7], &[4, 5, 7], &[0, 6], &[0, 1, 7], &[0, 8]];
 
-const LAST_NUMBER: usize = 15;
+const LAST_NUMBER: usize = 17;
+/// The one number among them that is the program's and no function's.
+const INPUT_LONG: usize = 16;
+
+fn numbers() -> impl Iterator<Item = usize> {
+    (0..=LAST_NUMBER).filter(|&number| number != INPUT_LONG)
+}
 
 #[derive(Default)]
 struct Counts {
@@ -366,16 +377,21 @@ struct Counts {
     table_sizes: [u64; TREE_SIZES.len()],
     table_widths: [u64; TREE_SIZES.len()],
     table_depths: [u64; TREE_SIZES.len()],
-    turns: Turns,
+    told: Told,
 }
 
-/// What was reached of the bodies 5 to 8.
+/// What was reached of the bodies 5 to 8 and of the two rules, told by lines.
 #[derive(Default)]
-struct Turns {
-    orders: turns::Lines,
-    orders_in_records: turns::Lines,
-    waits: turns::Lines,
-    refused: turns::Lines,
+struct Told {
+    orders: Lines,
+    orders_in_records: Lines,
+    waits: Lines,
+    refused: Lines,
+    /// Moves that one rule gives, and those that both give.
+    moves: [Lines; 2],
+    moves_in_records: [Lines; 2],
+    answers: Lines,
+    wrong_numbers: Lines,
 }
 
 /// Classes of sizes: the name and the largest number in it.
@@ -406,10 +422,10 @@ impl Counts {
     fn add(&mut self, asked: &Asked) {
         let number = number_of(asked.answer);
         self.answers[usize::from(kind_number(asked.call.kind)) - 1][number as usize] += 1;
-        if number == 0 || number > 9 {
+        if matches!(number, 0 | 10..=15) {
             self.add_table(&asked.call.table);
         }
-        self.turns.add(asked);
+        self.told.add(asked);
         match asked.call.kind {
             Kind::Step if number == 0 => self.add_moves(asked),
             Kind::Rest if number == 0 => self.add_run(asked),
@@ -503,14 +519,14 @@ impl Counts {
             let (plans, width, depth) = (self.table_sizes[at], self.table_widths[at], self.table_depths[at]);
             println!("  {name:<20} {plans:>12} {width:>14} {depth:>8}");
         }
-        self.turns.print();
+        self.told.print();
     }
 
     fn print_answers(&self) {
         let [step, rest, check] = &self.answers;
         println!("answers            step       rest      check");
         println!("  calls      {:>10} {:>10} {:>10}", sum(step), sum(rest), sum(check));
-        for number in 0..=LAST_NUMBER {
+        for number in numbers() {
             println!("  number {number:>2}  {:>10} {:>10} {:>10}", step[number], rest[number], check[number]);
         }
     }
@@ -538,20 +554,20 @@ impl Counts {
     fn nothing_impossible(&self) -> Result<(), String> {
         match self.first_move(|reached, possible| reached && !possible) {
             Some((old, new)) => Err(format!("IMPOSSIBLE, yet reached: the move from {old} to {new}")),
-            None => self.turns.nothing_impossible(),
+            None => self.told.nothing_impossible(),
         }
     }
 
-    /// Every number 1 to 15, every possible move, and what is wanted of the bodies 5 to 8.
+    /// Every number, every possible move, and what is wanted of the bodies 5 to 8 and of the two rules.
     fn all_reached(&self) -> Result<(), String> {
-        for number in 1..=LAST_NUMBER {
+        for number in numbers() {
             if self.answers.iter().all(|kind| kind[number] == 0) {
                 return Err(format!("NOT REACHED: answer number {number}"));
             }
         }
         match self.first_move(|reached, possible| possible && !reached) {
             Some((old, new)) => Err(format!("NOT REACHED: the move from {old} to {new}")),
-            None => self.turns.all_reached(),
+            None => self.told.all_reached(),
         }
     }
 
@@ -563,9 +579,16 @@ impl Counts {
     }
 }
 
-impl Turns {
+impl Told {
     fn add(&mut self, asked: &Asked) {
         let Asked { call, answer, states, .. } = asked;
+        let rule = match cases::RULES.into_iter().find(|&(number, _)| number == call.rule) {
+            Some((_, rule)) => rule,
+            None => {
+                losses::count_wrong_number(&mut self.wrong_numbers, call);
+                return;
+            }
+        };
         let plans = match reference::read_table(&call.table) {
             Ok(plans) => plans,
             Err(_) => {
@@ -576,24 +599,41 @@ impl Turns {
         match (call.kind, number_of(*answer)) {
             (Kind::Step, 0) => {
                 let words = reference::read_words(&call.words);
-                let before = reference::Before { plans: &plans, states: &call.states, words: &words };
+                let before = reference::Before { rule, plans: &plans, states: &call.states, words: &words };
                 turns::count_orders(&mut self.orders, &before, states);
                 turns::count_waits(&mut self.waits, call, &plans, states);
+                losses::count_moves(&mut self.moves, &before, states);
             }
-            (Kind::Check, 0) => turns::count_record(&mut self.orders_in_records, &plans, &call.words),
+            (Kind::Check, 0) => self.add_record(rule, &plans, &call.words),
             (_, 0) => {}
             _ => turns::count_refused_call(&mut self.refused, call, &plans, *answer),
         }
+        losses::count_answers(&mut self.answers, call, &plans);
+    }
+
+    /// All steps of a record that the rule accepts.
+    fn add_record(&mut self, rule: Rule, plans: &[reference::Plan], record: &[u8]) {
+        cases::for_each_step(rule, plans, record, |before, shown| {
+            turns::count_orders(&mut self.orders_in_records, before, shown);
+            losses::count_moves(&mut self.moves_in_records, before, shown);
+        });
     }
 
     /// Each part with its name and what is wanted of it.
-    fn parts(&self) -> [(&str, &turns::Lines, Vec<String>); 4] {
+    fn parts(&self) -> [(&str, &Lines, Vec<String>); 10] {
         let refusals = [turns::wanted_of_tables(), turns::wanted_of_calls()].concat();
+        let ([apart, alike], [apart_in_records, alike_in_records]) = (&self.moves, &self.moves_in_records);
         [
             ("orders of bodies 5 to 8 in steps", &self.orders, turns::wanted_orders()),
             ("orders of bodies 5 to 8 in accepted records", &self.orders_in_records, turns::wanted_orders()),
             ("where wait-for-optional decides", &self.waits, turns::wanted_waits()),
             ("refusals by bodies 5 to 8", &self.refused, refusals),
+            ("moves that one rule gives in steps", apart, losses::wanted_apart()),
+            ("moves that one rule gives in accepted records", apart_in_records, losses::wanted_apart()),
+            ("moves that both rules give in steps", alike, losses::wanted_alike()),
+            ("moves that both rules give in accepted records", alike_in_records, losses::wanted_alike()),
+            ("answers on which the rules part", &self.answers, losses::wanted_answers()),
+            ("other rule numbers", &self.wrong_numbers, losses::wanted_of_numbers()),
         ]
     }
 
@@ -618,7 +658,7 @@ fn picks_decided_in_record(call: &Call) -> bool {
     let mut states = vec![reference::INACTIVE; n];
     call.words[8..].chunks_exact(5 * n).any(|part| {
         let (words, shown) = part.split_at(4 * n);
-        reference::step(&call.table, &mut states, words);
+        reference::step(call.rule, &call.table, &mut states, words);
         let differs = states != shown;
         states.copy_from_slice(shown);
         differs

@@ -4,10 +4,13 @@
 //!
 //! starts PROGRAM anew for each input: a table and a record, as `cases` makes and spoils them, at times cut short, and at times longer
 //! than the program takes. A difference prints the seed and the input as hex, and the status is then 1; it is 1 too where the inputs,
-//! `REACH_FROM` of them or more, have no accepted record in which the second child's turn comes, for each of the bodies 5 to 8.
+//! `REACH_FROM` of them or more, have no accepted record in which the second child's turn comes, for each of the bodies 5 to 8, or none
+//! that rule 1 would judge otherwise, for each of the two verdicts.
 
 #[allow(dead_code)]
 mod cases;
+#[allow(dead_code)]
+mod losses;
 mod program;
 #[allow(dead_code)]
 mod reference;
@@ -15,8 +18,14 @@ mod reference;
 mod turns;
 
 use cases::{hex, Dice, Kind, Maker};
-use program::{printed, refusal_line, Options, MOST_BYTES};
+use program::{printed, refusal_line, Options};
+use reference::Rule;
 use std::process::ExitCode;
+
+/// "`aprcheck` uses 2"
+const RULE: u32 = 2;
+/// "16: program input over 65,536 bytes"
+const MOST_BYTES: usize = 65_536;
 
 /// So many inputs are compared if it is not said; from so many on a run is held to what it must reach.
 const REACH_FROM: usize = 400;
@@ -26,7 +35,7 @@ fn main() -> ExitCode {
     let mut maker = Maker::new(seed);
     let mut dice = Dice::new(seed);
     let mut accepted = 0;
-    let mut turns = turns::Lines::default();
+    let (mut turns, mut verdicts) = (turns::Lines::default(), turns::Lines::default());
     for _ in 0..inputs {
         let input = next_input(&mut maker, &mut dice);
         let (expected, got) = (line(&input), printed(&program, &input));
@@ -34,17 +43,22 @@ fn main() -> ExitCode {
             println!("DIFFERENCE\nseed {seed}\ninput {}\nexpected {expected:?}\nreceived {got:?}", hex(&input));
             return ExitCode::FAILURE;
         }
+        let (table, record) = input.split_at(table_length(&input));
         if expected.starts_with("accepted") {
             accepted += 1;
-            let (table, record) = input.split_at(table_length(&input));
             let plans = reference::read_table(table).expect("the table of an accepted record passes");
-            turns::count_record(&mut turns, &plans, record);
+            cases::for_each_step(Rule::New, &plans, record, |before, shown| turns::count_orders(&mut turns, before, shown));
+        }
+        if input.len() <= MOST_BYTES {
+            losses::count_verdicts(&mut verdicts, &cases::check_of(RULE, table.to_vec(), record.to_vec()));
         }
     }
     println!("seed {seed}: {inputs} inputs, no difference, {accepted} accepted");
     let comes = |line: &String| line.contains("second child, Inactive") && line.ends_with("becomes Considered");
     let wanted: Vec<String> = turns::wanted_orders().into_iter().filter(comes).collect();
-    match turns.are_all(&wanted) {
+    let wanted_verdicts = losses::wanted_verdicts(RULE);
+    verdicts.print("  records that only one rule accepts", &wanted_verdicts);
+    match turns.are_all(&wanted).and_then(|()| verdicts.are_all(&wanted_verdicts)) {
         Err(what) if inputs >= REACH_FROM => {
             println!("{what}");
             ExitCode::FAILURE
@@ -77,7 +91,7 @@ fn line(input: &[u8]) -> String {
         return "refused 16 0 0\n".to_string();
     }
     let (table, record) = input.split_at(table_length(input));
-    let answer = reference::check(table, record);
+    let answer = reference::check(RULE, table, record);
     if answer & 0xFFFF == 0 {
         format!("accepted {} {}\n", plan_count(input), answer >> 32)
     } else {

@@ -65,7 +65,7 @@ int main(int argc, char **argv) {
     uint8_t states[ASBRU_MOST_PLANS] = {0};
     uint8_t words[ASBRU_WORD * ASBRU_MOST_PLANS];
     for (unsigned step = 1; read_words(words, plans); step++) {
-        need(asbru_step(table, table_length, states, plans, words, ASBRU_WORD * plans));
+        need(asbru_step(ASBRU_RULE_2, table, table_length, states, plans, words, ASBRU_WORD * plans));
         print_states(step, states, plans);
         asbru_put_step(part, plans, words, states);
         fwrite(part, 1, asbru_step_size(plans), file);
@@ -74,13 +74,13 @@ int main(int argc, char **argv) {
 
     /* where the words of an idle step lead from here */
     memset(words, 0, sizeof words);
-    uint64_t rest = asbru_rest(table, table_length, states, plans, words, ASBRU_WORD * plans, 1000);
+    uint64_t rest = asbru_rest(ASBRU_RULE_2, table, table_length, states, plans, words, ASBRU_WORD * plans, 1000);
     need(rest);
     printf("%s after %u steps\n", asbru_plan(rest) == 0 ? "at rest" : "still moving", asbru_step_of(rest));
 
     size_t record_length;
     uint8_t *record = load(argv[2], &record_length);
-    uint64_t verdict = asbru_check(table, table_length, record, record_length);
+    uint64_t verdict = asbru_check(ASBRU_RULE_2, table, table_length, record, record_length);
     need(verdict);
     printf("accepted: %u steps\n", asbru_step_of(verdict));
     free(record);

@@ -19,6 +19,7 @@ typedef struct {
     uint16_t parent;
     uint8_t body, flags, present, manual, overridable, wait;
     uint8_t rank, children, named;
+    uint8_t row; /* of `counted` */
     uint16_t done, lets; /* sets of states: see below */
 } Plan;
 
@@ -27,15 +28,19 @@ typedef struct {
 #define COUNT(word, field) ((unsigned)((word) >> 8 * (field)) & 0xFF)
 enum { DONE_NAMED, LOST_NAMED, NOT_ENDED, WAITING, BEGUN, EXECUTING, ABORTED_ONES, IDLE };
 
-static const uint64_t counted[2][9] = {
-#define ROW(named)                                                                                                                     \
+/*
+ * What a child in each state adds to them. A row each for children that are not named, those that are, and named ones of a plan with
+ * retry-aborted under rule 2, to which an Aborted one is not lost.
+ */
+static const uint64_t counted[3][9] = {
+#define ROW(named, lost)                                                                                                               \
     {                                                                                                                                  \
         ONE(NOT_ENDED) | ONE(WAITING) | ONE(IDLE), ONE(NOT_ENDED) | ONE(WAITING), ONE(NOT_ENDED) | ONE(WAITING), ONE(NOT_ENDED),       \
             ONE(NOT_ENDED) | ONE(BEGUN) | ONE(EXECUTING), ONE(NOT_ENDED) | ONE(BEGUN) | ONE(EXECUTING),                                \
-            ONE(BEGUN) | (named) * ONE(DONE_NAMED), ONE(BEGUN) | ONE(ABORTED_ONES) | (named) * ONE(LOST_NAMED),                        \
+            ONE(BEGUN) | (named) * ONE(DONE_NAMED), ONE(BEGUN) | ONE(ABORTED_ONES) | (lost) * ONE(LOST_NAMED),                         \
             (named) * ONE(LOST_NAMED)                                                                                                  \
     }
-    ROW(0ull), ROW(1ull)
+    ROW(0ull, 0ull), ROW(1ull, 1ull), ROW(1ull, 0ull)
 #undef ROW
 };
 
@@ -84,8 +89,9 @@ static int above(const Plan *plans, unsigned a, unsigned p) {
     return p == a;
 }
 
-/* Checks 1 to 9, and what a table gives. */
-static uint64_t read_table(const uint8_t *t, size_t length, Plan *plans) {
+/* Checks 17 and 1 to 9, and what a table gives under a rule. */
+static uint64_t read_table(uint32_t rule, const uint8_t *t, size_t length, Plan *plans) {
+    if (rule != 1 && rule != 2) return 17;
     if (length < 8) return 1;
     if (memcmp(t, "APT", 3)) return 2;
     if (u16(t + 3) != 1) return 3;
@@ -95,7 +101,7 @@ static uint64_t read_table(const uint8_t *t, size_t length, Plan *plans) {
     for (unsigned p = 0; p < n; p++) {
         const uint8_t *e = t + 8 + 8 * p;
         Plan *plan = plans + p;
-        *plan = (Plan){(uint16_t)u16(e), e[2], e[3], e[4], e[5], e[6], e[7], 0, 0, 0, 0, 0};
+        *plan = (Plan){(uint16_t)u16(e), e[2], e[3], e[4], e[5], e[6], e[7], 0, 0, 0, 0, 0, 0};
         if (p == 0) {
             if (plan->parent != NONE) return answer(6, 0, 0);
         } else {
@@ -104,6 +110,7 @@ static uint64_t read_table(const uint8_t *t, size_t length, Plan *plans) {
             if (q->children == 64) return answer(6, 0, p);
             plan->rank = q->children++;
             q->named += plan->flags >> 2 & 1;
+            if (plan->flags & NAMED) plan->row = rule == 2 && q->flags & RETRY ? 2 : 1;
         }
     }
     for (unsigned p = 0; p < n; p++) {
@@ -141,7 +148,7 @@ static void survey(const Plan *plans, unsigned n, const uint8_t *old, const uint
     memset(s->choice, 0, n * sizeof s->choice[0]);
     for (unsigned p = 1; p < n; p++) {
         unsigned q = plans[p].parent, state = old[p];
-        s->counts[q] += counted[plans[p].flags >> 2 & 1][state];
+        s->counts[q] += counted[plans[p].row][state];
         if (!s->first[q] && !(plans[q].done >> state & 1)) s->first[q] = (uint16_t)p;
         if (state == READY && shown) {
             /* the lowest Ready child that is shown Activated, else the highest Ready one */
@@ -260,10 +267,10 @@ static uint64_t check_states(const Plan *plans, unsigned n, const uint8_t *state
     return 0;
 }
 
-/* Checks 1 to 12. */
-static uint64_t check_call(const uint8_t *t, size_t t_length, const uint8_t *states, size_t s_length, const uint8_t *words,
-                           size_t w_length, Plan *plans) {
-    uint64_t bad = read_table(t, t_length, plans);
+/* Checks 17 and 1 to 12. */
+static uint64_t check_call(uint32_t rule, const uint8_t *t, size_t t_length, const uint8_t *states, size_t s_length,
+                           const uint8_t *words, size_t w_length, Plan *plans) {
+    uint64_t bad = read_table(rule, t, t_length, plans);
     if (bad) return bad;
     unsigned n = u16(t + 5);
     if (s_length != n || w_length != 4 * n) return 10;
@@ -284,10 +291,10 @@ static void look_ahead(const Plan *plans, unsigned n, const uint8_t *states, con
     for (unsigned p = 0; p < n; p++) now[p] = (uint8_t)next(plans, &s, states, now, words, p);
 }
 
-uint64_t plain_step(const uint8_t *table, size_t table_length, uint8_t *states, size_t states_length, const uint8_t *words,
-                    size_t words_length) {
+uint64_t plain_step(uint32_t rule, const uint8_t *table, size_t table_length, uint8_t *states, size_t states_length,
+                    const uint8_t *words, size_t words_length) {
     Plan plans[MOST];
-    uint64_t bad = check_call(table, table_length, states, states_length, words, words_length, plans);
+    uint64_t bad = check_call(rule, table, table_length, states, states_length, words, words_length, plans);
     if (bad) return bad;
     uint8_t now[MOST];
     look_ahead(plans, (unsigned)states_length, states, words, now);
@@ -295,10 +302,10 @@ uint64_t plain_step(const uint8_t *table, size_t table_length, uint8_t *states, 
     return 0;
 }
 
-uint64_t plain_rest(const uint8_t *table, size_t table_length, uint8_t *states, size_t states_length, const uint8_t *words,
-                    size_t words_length, uint16_t budget) {
+uint64_t plain_rest(uint32_t rule, const uint8_t *table, size_t table_length, uint8_t *states, size_t states_length,
+                    const uint8_t *words, size_t words_length, uint16_t budget) {
     Plan plans[MOST];
-    uint64_t bad = check_call(table, table_length, states, states_length, words, words_length, plans);
+    uint64_t bad = check_call(rule, table, table_length, states, states_length, words, words_length, plans);
     if (bad) return bad;
     for (unsigned k = 0;; k++) {
         uint8_t now[MOST];
@@ -309,9 +316,9 @@ uint64_t plain_rest(const uint8_t *table, size_t table_length, uint8_t *states, 
     }
 }
 
-uint64_t plain_check(const uint8_t *table, size_t table_length, const uint8_t *record, size_t record_length) {
+uint64_t plain_check(uint32_t rule, const uint8_t *table, size_t table_length, const uint8_t *record, size_t record_length) {
     Plan plans[MOST];
-    uint64_t bad = read_table(table, table_length, plans);
+    uint64_t bad = read_table(rule, table, table_length, plans);
     if (bad) return bad;
     unsigned n = u16(table + 5);
     if (record_length < 8 || memcmp(record, "APR", 3) || u16(record + 3) != 1 || u16(record + 5) != n || record[7]) return 13;

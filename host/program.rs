@@ -4,9 +4,6 @@ use crate::reference::Answer;
 use std::io::Write;
 use std::process::{Command, Stdio};
 
-/// What a program takes at most: "16: program input over 65,536 bytes" of `aprcheck`, and `trials` reads no more.
-pub const MOST_BYTES: usize = 65_536;
-
 pub struct Options {
     /// The program and its arguments.
     pub program: Vec<String>,

@@ -1,10 +1,11 @@
 //! A slow and plain implementation of document 01, "Requirements and rules for the build", and of
-//! request (i) of document 02, "Bodies for the bad turn".
+//! requests (i) and (ii) of document 02, "Bodies for the bad turn" and "A retried step should not sink
+//! its parent".
 //!
 //! It is written to be read beside the documents: in the order of document 01, in their words, one
 //! small function for each rule. A sentence in quotation marks is document 01's own; behind "02 (i):"
-//! it is the request's. Nothing here is clever; where a rule can be looked up again by walking over
-//! the whole table, it is.
+//! or "02 (ii):" it is that request's. Nothing here is clever; where a rule can be looked up again by
+//! walking over the whole table, it is.
 //!
 //! Tests, among them the brute-force search over all picks, are in self_test.rs.
 
@@ -241,7 +242,7 @@ fn absent_condition_holds(condition: u32) -> bool {
     matches!(condition, FILTER | SETUP | REACTIVATE | COMPLETE)
 }
 
-fn condition_holds(plan: &Plan, word: u32, condition: u32) -> bool {
+pub fn condition_holds(plan: &Plan, word: u32, condition: u32) -> bool {
     if bit(plan.present, condition) {
         present_condition_holds(plan, word, condition)
     } else {
@@ -259,9 +260,18 @@ fn condition_is_satisfiable(plan: &Plan, word: u32, filter_or_setup: u32) -> boo
 // One step
 // ------------------------------------------------------------------------------------------------
 
-/// What all plans of one step read: the table, the OLD states and the words.
+/// 02 (ii): "The clinic's stored records from before keep the old rule: the step, the run, the checker ...
+/// take a number, 1 old and 2 new".
+#[derive(Clone, Copy, PartialEq, Debug)]
+pub enum Rule {
+    Old,
+    New,
+}
+
+/// What all plans of one step read: the rule, the table, the OLD states and the words.
 #[derive(Clone, Copy)]
 pub struct Before<'a> {
+    pub rule: Rule,
     pub plans: &'a [Plan],
     pub states: &'a [u8],
     pub words: &'a [u32],
@@ -419,9 +429,19 @@ fn must_abort(before: &Before, p: usize) -> bool {
     condition_holds(&before.plans[p], before.words[p], ABORT) || too_many_are_lost(before, p)
 }
 
-/// "Too many are lost when wait-for fails of the children that are neither Rejected nor Aborted"
+/// "Too many are lost when wait-for fails of the children that are neither Rejected nor Aborted"; which
+/// of these are lost is for the rule to say.
 fn too_many_are_lost(before: &Before, p: usize) -> bool {
-    !wait_for_holds(before, p, |state| state != REJECTED && state != ABORTED)
+    !wait_for_holds(before, p, |state| !is_lost(before.rule, &before.plans[p], state))
+}
+
+/// 02 (ii): "Document 01 counts an Aborted child as lost even when it will be retried. From now on,
+/// under retry-aborted only Rejected children are lost." The flag is the parent's.
+fn is_lost(rule: Rule, parent: &Plan, child_state: u8) -> bool {
+    match rule {
+        Rule::New if parent.retries_aborted() => child_state == REJECTED,
+        _ => matches!(child_state, REJECTED | ABORTED),
+    }
 }
 
 /// "Suspended if the parent is Suspended or suspend holds"
@@ -665,10 +685,10 @@ pub enum Run {
 /// "rested after k, the least k up to the budget after which one more step changes nothing; or
 /// still moving, exactly when no such k exists. The states are those after k, or after the whole
 /// budget."
-fn run_to_rest(plans: &[Plan], states: &[u8], words: &[u32], budget: u16) -> Run {
-    let mut now = states.to_vec();
+fn run_to_rest(start: &Before, budget: u16) -> Run {
+    let mut now = start.states.to_vec();
     for k in 0..=budget {
-        let one_more = new_states(&Before { plans, states: &now, words });
+        let one_more = new_states(&Before { states: &now, ..*start });
         if one_more == now {
             return Run::Rested { after: k, states: now };
         }
@@ -682,17 +702,17 @@ fn run_to_rest(plans: &[Plan], states: &[u8], words: &[u32], budget: u16) -> Run
 
 /// The same answer as `run_to_rest`, sooner for a run that goes round in a circle for 65,535 steps.
 ///
-/// Why it is exact: table and words are held, so the states after a step are a function of the
+/// Why it is exact: rule, table and words are held, so the states after a step are a function of the
 /// states before it and of nothing else. If the states after k are those after an earlier j, then
 /// the run from k repeats the run from j, with period k - j: for every later i the states after i
 /// are those after j + (i - j) mod (k - j). None of the states in the circle is at rest, for a run
 /// at rest was answered before it could repeat. So no k' up to any budget exists, and the states
 /// after the whole budget are among those already seen.
-fn run_to_rest_jumping(plans: &[Plan], states: &[u8], words: &[u32], budget: u16) -> Run {
-    let mut seen: Vec<Vec<u8>> = vec![states.to_vec()];
-    let mut first_seen_after = std::collections::HashMap::from([(states.to_vec(), 0)]);
+fn run_to_rest_jumping(start: &Before, budget: u16) -> Run {
+    let mut seen: Vec<Vec<u8>> = vec![start.states.to_vec()];
+    let mut first_seen_after = std::collections::HashMap::from([(start.states.to_vec(), 0)]);
     for k in 0..=usize::from(budget) {
-        let one_more = new_states(&Before { plans, states: &seen[k], words });
+        let one_more = new_states(&Before { states: &seen[k], ..*start });
         if one_more == seen[k] {
             return Run::Rested { after: k as u16, states: one_more };
         }
@@ -810,6 +830,15 @@ fn refuse_lowest_plan(n: usize, number: u64, step: usize, is_concerned: impl Fn(
     }
 }
 
+/// 02 (ii): "Refusals: 17, another rule number, checked first."
+fn read_rule(number: u32) -> Result<Rule, Answer> {
+    match number {
+        1 => Ok(Rule::Old),
+        2 => Ok(Rule::New),
+        _ => Err(answer(17, 0, 0)),
+    }
+}
+
 /// The checks 1 to 9, "in this order, one number over the whole table or call before the next".
 pub fn read_table(table: &[u8]) -> Result<Vec<Plan>, Answer> {
     // "1: table under 8 bytes"
@@ -897,7 +926,7 @@ fn is_a_leaf_that_waits_or_retries(plan: &Plan) -> bool {
     plan.body == LEAF && (plan.wait_number != 0 || plan.retries_aborted() || plan.waits_for_optional())
 }
 
-fn named_children(plans: &[Plan], p: usize) -> usize {
+pub fn named_children(plans: &[Plan], p: usize) -> usize {
     plans[p].children.iter().filter(|&&child| plans[child].is_named()).count()
 }
 
@@ -953,7 +982,7 @@ fn read_record(record: &[u8], n: usize) -> Result<usize, Answer> {
 
 /// "step by step 12 before 15", each naming the step, "from 1". The first step starts from a tree
 /// in which nothing has begun.
-fn compare_steps(plans: &[Plan], record: &[u8], steps: usize) -> Check {
+fn compare_steps(rule: Rule, plans: &[Plan], record: &[u8], steps: usize) -> Check {
     let n = plans.len();
     let inactive = vec![INACTIVE; n];
     let mut states: &[u8] = &inactive;
@@ -962,7 +991,7 @@ fn compare_steps(plans: &[Plan], record: &[u8], steps: usize) -> Check {
         let words = read_words(words);
         refuse_lowest_plan(n, 12, step, |p| word_in_record_is_wrong(&plans[p], words[p]))?;
         // "15: states that no picks explain"
-        if let Some(p) = first_unexplained_plan(&Before { plans, states, words: &words }, shown) {
+        if let Some(p) = first_unexplained_plan(&Before { rule, plans, states, words: &words }, shown) {
             return Err(answer(15, p, step));
         }
         states = shown;
@@ -975,41 +1004,44 @@ fn compare_steps(plans: &[Plan], record: &[u8], steps: usize) -> Check {
 // ------------------------------------------------------------------------------------------------
 
 /// One synchronous step: "The step and the run write the new states over the states handed in."
-pub fn step(table: &[u8], states: &mut [u8], words: &[u8]) -> Answer {
-    try_step(table, states, words).unwrap_or_else(|refusal| refusal)
+pub fn step(rule: u32, table: &[u8], states: &mut [u8], words: &[u8]) -> Answer {
+    try_step(rule, table, states, words).unwrap_or_else(|refusal| refusal)
 }
 
-fn try_step(table: &[u8], states: &mut [u8], words: &[u8]) -> Result<Answer, Answer> {
+fn try_step(rule: u32, table: &[u8], states: &mut [u8], words: &[u8]) -> Result<Answer, Answer> {
+    let rule = read_rule(rule)?;
     let plans = read_table(table)?;
     let words = read_call(&plans, states, words)?;
-    let new = new_states(&Before { plans: &plans, states, words: &words });
+    let new = new_states(&Before { rule, plans: &plans, states, words: &words });
     states.copy_from_slice(&new);
     Ok(answer(DONE, 0, 0))
 }
 
 /// Running to rest under held words.
 #[allow(dead_code)] // The tester calls `rest_jumping`, which the tests compare with this one.
-pub fn rest(table: &[u8], states: &mut [u8], words: &[u8], budget: u16) -> Answer {
-    try_rest(table, states, words, budget, run_to_rest).unwrap_or_else(|refusal| refusal)
+pub fn rest(rule: u32, table: &[u8], states: &mut [u8], words: &[u8], budget: u16) -> Answer {
+    try_rest(rule, table, states, words, budget, run_to_rest).unwrap_or_else(|refusal| refusal)
 }
 
 /// The same, with the jump over the rounds of a circle.
-pub fn rest_jumping(table: &[u8], states: &mut [u8], words: &[u8], budget: u16) -> Answer {
-    try_rest(table, states, words, budget, run_to_rest_jumping).unwrap_or_else(|refusal| refusal)
+pub fn rest_jumping(rule: u32, table: &[u8], states: &mut [u8], words: &[u8], budget: u16) -> Answer {
+    try_rest(rule, table, states, words, budget, run_to_rest_jumping).unwrap_or_else(|refusal| refusal)
 }
 
-type RunToRest = fn(&[Plan], &[u8], &[u32], u16) -> Run;
+type RunToRest = fn(&Before, u16) -> Run;
 
 fn try_rest(
+    rule: u32,
     table: &[u8],
     states: &mut [u8],
     words: &[u8],
     budget: u16,
     run: RunToRest,
 ) -> Result<Answer, Answer> {
+    let rule = read_rule(rule)?;
     let plans = read_table(table)?;
     let words = read_call(&plans, states, words)?;
-    match run(&plans, states, &words, budget) {
+    match run(&Before { rule, plans: &plans, states, words: &words }, budget) {
         Run::Rested { after, states: at_rest } => {
             states.copy_from_slice(&at_rest);
             Ok(answer(DONE, 0, usize::from(after)))
@@ -1022,15 +1054,16 @@ fn try_rest(
 }
 
 /// Checking a record: "Acceptance returns the number of steps."
-pub fn check(table: &[u8], record: &[u8]) -> Answer {
-    try_check(table, record).unwrap_or_else(|refusal| refusal)
+pub fn check(rule: u32, table: &[u8], record: &[u8]) -> Answer {
+    try_check(rule, table, record).unwrap_or_else(|refusal| refusal)
 }
 
 /// "the checker goes 1-9, 13, 14, then step by step"
-fn try_check(table: &[u8], record: &[u8]) -> Result<Answer, Answer> {
+fn try_check(rule: u32, table: &[u8], record: &[u8]) -> Result<Answer, Answer> {
+    let rule = read_rule(rule)?;
     let plans = read_table(table)?;
     let steps = read_record(record, plans.len())?;
-    compare_steps(&plans, record, steps)?;
+    compare_steps(rule, &plans, record, steps)?;
     Ok(answer(DONE, 0, steps))
 }
 

@@ -1,7 +1,7 @@
 //! Tests of the reference itself: `rustc --test differ.rs`.
 
 use crate::cases::{self, Dice};
-use crate::reference::{self, answer, Before, Plan};
+use crate::reference::{self, answer, Before, Plan, Rule};
 
 // ------------------------------------------------------------------------------------------------
 // "Small protocols to try"
@@ -37,16 +37,31 @@ fn bytes(words: [u32; 3]) -> Vec<u8> {
     words.iter().flat_map(|word| word.to_le_bytes()).collect()
 }
 
-fn expect_step(table: &[u8], from: [u8; 3], words: [u32; 3], to: [u8; 3]) {
+fn expect_step_by(rule: u32, table: &[u8], from: [u8; 3], words: [u32; 3], to: [u8; 3]) {
     let mut states = from;
-    assert_eq!(reference::step(table, &mut states, &bytes(words)), 0);
-    assert_eq!(states, to, "from {from:?} with {words:?}");
+    assert_eq!(reference::step(rule, table, &mut states, &bytes(words)), 0);
+    assert_eq!(states, to, "by rule {rule} from {from:?} with {words:?}");
+}
+
+/// By both rules, as all below that name none.
+fn expect_step(table: &[u8], from: [u8; 3], words: [u32; 3], to: [u8; 3]) {
+    for rule in [1, 2] {
+        expect_step_by(rule, table, from, words, to);
+    }
 }
 
 fn expect_refusal(table: &[u8], states: [u8; 3], words: [u32; 3], expected: u64) {
-    let mut lent = states;
-    assert_eq!(reference::step(table, &mut lent, &bytes(words)), expected);
-    assert_eq!(lent, states);
+    for rule in [1, 2] {
+        let mut lent = states;
+        assert_eq!(reference::step(rule, table, &mut lent, &bytes(words)), expected);
+        assert_eq!(lent, states);
+    }
+}
+
+fn check(table: &[u8], record: &[u8]) -> u64 {
+    let answer = reference::check(1, table, record);
+    assert_eq!(reference::check(2, table, record), answer);
+    answer
 }
 
 const FIRST_EIGHT: [[u8; 3]; 8] =
@@ -73,12 +88,14 @@ fn t1_picks_and_completes() {
 #[test]
 fn t1_rests() {
     for rest in [reference::rest, reference::rest_jumping] {
-        let mut states = [0, 0, 0];
-        assert_eq!(rest(&T1, &mut states, &bytes([0, 0, 0]), 8), answer(0, 0, 8));
-        assert_eq!(states, [4, 4, 3]);
-        let mut states = [0, 0, 0];
-        assert_eq!(rest(&T1, &mut states, &bytes([0, 0, 0]), 7), answer(0, 1, 7));
-        assert_eq!(states, [4, 3, 3]);
+        for rule in [1, 2] {
+            let mut states = [0, 0, 0];
+            assert_eq!(rest(rule, &T1, &mut states, &bytes([0, 0, 0]), 8), answer(0, 0, 8));
+            assert_eq!(states, [4, 4, 3]);
+            let mut states = [0, 0, 0];
+            assert_eq!(rest(rule, &T1, &mut states, &bytes([0, 0, 0]), 7), answer(0, 1, 7));
+            assert_eq!(states, [4, 3, 3]);
+        }
     }
 }
 
@@ -154,18 +171,18 @@ fn record_of(steps: &[[u8; 3]]) -> Vec<u8> {
 #[test]
 fn records_of_t1() {
     let mut steps = FIRST_EIGHT;
-    assert_eq!(reference::check(&T1, &record_of(&[])), answer(0, 0, 0));
-    assert_eq!(reference::check(&T1, &record_of(&steps)), answer(0, 0, 8));
+    assert_eq!(check(&T1, &record_of(&[])), answer(0, 0, 0));
+    assert_eq!(check(&T1, &record_of(&steps)), answer(0, 0, 8));
     steps[7] = [4, 3, 4];
-    assert_eq!(reference::check(&T1, &record_of(&steps)), answer(0, 0, 8));
+    assert_eq!(check(&T1, &record_of(&steps)), answer(0, 0, 8));
     steps[7] = [4, 3, 3];
-    assert_eq!(reference::check(&T1, &record_of(&steps)), answer(15, 2, 8));
+    assert_eq!(check(&T1, &record_of(&steps)), answer(15, 2, 8));
     steps[7] = [4, 4, 4];
-    assert_eq!(reference::check(&T1, &record_of(&steps)), answer(15, 2, 8));
+    assert_eq!(check(&T1, &record_of(&steps)), answer(15, 2, 8));
     steps[7] = [4, 9, 4];
-    assert_eq!(reference::check(&T1, &record_of(&steps)), answer(15, 1, 8));
-    assert_eq!(reference::check(&T1, b"APR\x01\x00\x03\x00"), answer(13, 0, 0));
-    assert_eq!(reference::check(&T1, &record_of(&steps)[..22]), answer(14, 0, 0));
+    assert_eq!(check(&T1, &record_of(&steps)), answer(15, 1, 8));
+    assert_eq!(check(&T1, b"APR\x01\x00\x03\x00"), answer(13, 0, 0));
+    assert_eq!(check(&T1, &record_of(&steps)[..22]), answer(14, 0, 0));
 }
 
 /// Plan 0 has the children 1 and 4, plan 1 the leaves 2 and 3.
@@ -316,7 +333,7 @@ fn bodies_for_two_refused() {
             let stands = [first == 7, (4..=7).contains(&first), (4..=7).contains(&first), first == 0];
             for body in 5..=8 {
                 let mut states = [4, first, state];
-                let number = reference::step(&two(body), &mut states, &bytes([0, 0, 0]));
+                let number = reference::step(2, &two(body), &mut states, &bytes([0, 0, 0]));
                 let expected = if stands[usize::from(body) - 5] { 0 } else { answer(11, 2, 0) };
                 assert_eq!(number, expected, "body {body}: 4, {first}, {state}");
             }
@@ -331,10 +348,10 @@ fn bodies_for_two_refused() {
                 let wrong = if body == 8 && p == 0 { bits == 1 } else { true };
                 let expected = |step| if wrong { answer(12, p, step) } else { answer(0, 0, step) };
                 let mut states = [0, 0, 0];
-                assert_eq!(reference::step(&two(body), &mut states, &bytes(words)), expected(0));
+                assert_eq!(reference::step(2, &two(body), &mut states, &bytes(words)), expected(0));
                 let mut record = record_of(&[[1, 0, 0]]);
                 record[8..20].copy_from_slice(&bytes(words));
-                assert_eq!(reference::check(&two(body), &record), expected(1));
+                assert_eq!(check(&two(body), &record), expected(1));
             }
         }
     }
@@ -348,11 +365,82 @@ fn records_with_a_second_child() {
         let mut record = record_of(&[&begun[..], after].concat());
         // step 9: abort on plan 1
         record[8 + 15 * 8 + 4] = 16;
-        reference::check(&abort, &record)
+        check(&abort, &record)
     };
     assert_eq!(with(&[[4, 7, 0], [4, 7, 1], [4, 7, 2]]), answer(0, 0, 11));
     assert_eq!(with(&[[4, 7, 1], [4, 7, 2]]), answer(15, 2, 9));
     assert_eq!(with(&[[4, 7, 0], [4, 7, 0]]), answer(15, 2, 10));
+}
+
+// ------------------------------------------------------------------------------------------------
+// Request (ii) of document 02: rules 1 and 2
+// ------------------------------------------------------------------------------------------------
+
+/// T1 with retry-aborted on plan 0.
+fn t1_retrying() -> Vec<u8> {
+    t1_with(&[(place(0, 3), 1)])
+}
+
+/// "T1 with retry goes from 473 to 413"; m 1 with retry, and m 2 without, stand in `t1_loses_children`.
+#[test]
+fn an_aborted_child_that_is_retried_is_lost_by_rule_1_only() {
+    expect_step_by(1, &t1_retrying(), [4, 7, 3], [0, 0, 0], [7, 7, 8]);
+    expect_step_by(2, &t1_retrying(), [4, 7, 3], [0, 0, 0], [4, 1, 3]);
+    // both Aborted; and a Suspended plan, which does not retry
+    expect_step_by(1, &t1_retrying(), [4, 7, 7], [0, 0, 0], [7, 7, 7]);
+    expect_step_by(2, &t1_retrying(), [4, 7, 7], [0, 0, 0], [4, 1, 1]);
+    expect_step_by(1, &t1_retrying(), [5, 7, 3], [0, 0, 0], [7, 7, 8]);
+    expect_step_by(2, &t1_retrying(), [5, 7, 3], [0, 0, 0], [4, 7, 3]);
+}
+
+#[test]
+fn a_rejected_child_is_lost_by_both_rules() {
+    expect_step(&t1_retrying(), [4, 8, 3], [0, 0, 0], [7, 8, 8]);
+    expect_step(&t1_retrying(), [4, 7, 8], [0, 0, 0], [7, 7, 8]);
+    expect_step(&t1_retrying(), [5, 8, 7], [0, 0, 0], [7, 8, 7]);
+}
+
+#[test]
+fn runs_by_a_rule() {
+    for rest in [reference::rest, reference::rest_jumping] {
+        for (rule, steps, at_rest) in [(1, 1, [7, 7, 8]), (2, 3, [4, 3, 4])] {
+            let mut states = [4, 7, 3];
+            assert_eq!(rest(rule, &t1_retrying(), &mut states, &bytes([0, 0, 0]), 9), answer(0, 0, steps));
+            assert_eq!(states, at_rest);
+        }
+    }
+}
+
+#[test]
+fn records_by_a_rule() {
+    let abort = changed(&t1_retrying(), &[(place(1, 4), 48)]);
+    let with = |rule: u32, last: [u8; 3]| {
+        let mut record = record_of(&[&FIRST_EIGHT[..], &[[4, 7, 3], last]].concat());
+        // step 9: abort on plan 1
+        record[8 + 15 * 8 + 4] = 16;
+        reference::check(rule, &abort, &record)
+    };
+    assert_eq!(with(1, [7, 7, 8]), answer(0, 0, 10));
+    assert_eq!(with(2, [7, 7, 8]), answer(15, 0, 10));
+    assert_eq!(with(1, [4, 1, 3]), answer(15, 0, 10));
+    assert_eq!(with(2, [4, 1, 3]), answer(0, 0, 10));
+}
+
+#[test]
+fn other_rule_numbers_are_refused_first() {
+    for rule in cases::WRONG_RULES {
+        for table in [&T1[..], &T1[..7]] {
+            for states in [[4, 7, 3], [9, 9, 9]] {
+                let mut lent = states;
+                assert_eq!(reference::step(rule, table, &mut lent, &bytes([0, 0, 0])), answer(17, 0, 0));
+                assert_eq!(reference::rest(rule, table, &mut lent, &bytes([0, 0, 0]), 9), answer(17, 0, 0));
+                assert_eq!(lent, states);
+            }
+            for record in [record_of(&FIRST_EIGHT), vec![]] {
+                assert_eq!(reference::check(rule, table, &record), answer(17, 0, 0));
+            }
+        }
+    }
 }
 
 // ------------------------------------------------------------------------------------------------
@@ -472,7 +560,8 @@ fn plan_by_plan_search_finds_what_brute_force_finds() {
     for _ in 0..50_000 {
         let (plans, states, words) =
             if dice.percent(50) { small_case(&mut dice, 9) } else { case_with_choices(&mut dice) };
-        let before = Before { plans: &plans, states: &states, words: &words };
+        let (_, rule) = cases::any_rule(&mut dice);
+        let before = Before { rule, plans: &plans, states: &states, words: &words };
         let shown = nearly_shown(&mut dice, &before);
         let found = reference::first_unexplained_plan(&before, &shown);
         assert_eq!(found, first_unexplained_by_brute_force(&before, &shown));
@@ -507,8 +596,9 @@ fn jumping_run_answers_as_the_plain_one() {
             cases::good_words(&mut dice, &plans, &mood).iter().flat_map(|word| word.to_le_bytes()).collect();
         let budget = dice.one_of(&[0, 1, 5, 20, 60, 61, 62, 63, 64, 65, 66, 67, 65_535]);
         let mut jumped = states.clone();
-        let plain = reference::rest(&table, &mut states, &words, budget);
-        assert_eq!(reference::rest_jumping(&table, &mut jumped, &words, budget), plain);
+        let (rule, _) = cases::any_rule(&mut dice);
+        let plain = reference::rest(rule, &table, &mut states, &words, budget);
+        assert_eq!(reference::rest_jumping(rule, &table, &mut jumped, &words, budget), plain);
         assert_eq!(jumped, states);
         moving += u64::from(plain >> 16 & 0xFFFF == 1 && budget >= 60);
     }
@@ -523,7 +613,8 @@ fn states_that_may_be_handed_in_lead_to_such_states() {
     let mut with_one = [0; 9];
     for _ in 0..20_000 {
         let (plans, states, words) = small_case(&mut dice, 14);
-        let new = reference::new_states(&Before { plans: &plans, states: &states, words: &words });
+        let (_, rule) = cases::any_rule(&mut dice);
+        let new = reference::new_states(&Before { rule, plans: &plans, states: &states, words: &words });
         assert!((0..plans.len()).all(|p| !reference::breaks_a_rule(&plans, &new, p)));
         for plan in plans.iter().filter(|plan| matches!(plan.body, 1 | 3 | 5 | 8)) {
             let running = plan.children.iter().filter(|&&child| reference::in_execution(new[child])).count();
@@ -533,6 +624,29 @@ fn states_that_may_be_handed_in_lead_to_such_states() {
     }
     println!("plans with a child in execution, by body: {with_one:?}");
     assert!([1, 3, 5, 8].into_iter().all(|body| with_one[body] > 100));
+}
+
+#[test]
+fn the_rules_agree_without_an_aborted_child_that_is_retried() {
+    let mut dice = Dice::new(5);
+    let (mut apart, mut alike) = (0, 0);
+    for _ in 0..20_000 {
+        let (plans, states, words) = small_case(&mut dice, 14);
+        let new = |rule| reference::new_states(&Before { rule, plans: &plans, states: &states, words: &words });
+        let is_retried = |child: usize| {
+            let parent = plans[child].parent.map(|parent| &plans[parent]);
+            states[child] == reference::ABORTED && parent.is_some_and(|parent| !reference::is_done(parent, states[child]))
+        };
+        let some_are = (0..plans.len()).any(is_retried);
+        if new(Rule::Old) != new(Rule::New) {
+            assert!(some_are);
+            apart += 1;
+        } else {
+            alike += usize::from(some_are);
+        }
+    }
+    println!("with an Aborted child that is retried: {apart} apart, {alike} alike");
+    assert!(apart > 100 && alike > 100);
 }
 
 /// A plan and its descendants, found from above: in preorder.

@@ -15,8 +15,11 @@ mod reference;
 mod turns;
 
 use cases::{hex, Dice};
-use program::{printed, refusal_line, Options, MOST_BYTES};
+use program::{printed, refusal_line, Options};
 use std::process::ExitCode;
+
+/// What `trials` reads at most.
+const MOST_BYTES: usize = 262_144;
 
 /// So many questions are asked if it is not said; from so many on a run is held to what it must reach.
 const REACH_FROM: usize = 6_000;

@@ -334,15 +334,3 @@ fn count_too_soon_or_not(lines: &mut Lines, call: &Call, plans: &[Plan], p: usiz
         lines.count(too_soon_or_not(plans[parent].body, child, shown[p]));
     }
 }
-
-/// The orders in all steps of an accepted record.
-pub fn count_record(lines: &mut Lines, plans: &[Plan], record: &[u8]) {
-    let n = plans.len();
-    let mut states = vec![reference::INACTIVE; n];
-    for part in record[reference::HEADER_BYTES..].chunks_exact(5 * n) {
-        let (words, shown) = part.split_at(4 * n);
-        let words = reference::read_words(words);
-        count_orders(lines, &Before { plans, states: &states, words: &words }, shown);
-        states = shown.to_vec();
-    }
-}

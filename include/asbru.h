@@ -6,6 +6,16 @@
  * words, in numbered paragraphs; asbru_text.h, which is not proved, has a text for each state, body and number.
  *
  *
+ * RULES 1 AND 2
+ *
+ * Each function takes the number of a rule first, one of `enum asbru_rule`; any other number is refused before all else. They differ in
+ * one thing, the children that are lost to a plan with retry-aborted. Under ASBRU_RULE_1 an Aborted child is lost although the plan would
+ * retry it: where wait-for then fails of the children that are left, the plan aborts before any retry. Under ASBRU_RULE_2 an Aborted
+ * child of such a plan is not lost, and only Rejected ones are. Without retry-aborted the two agree, and Rejected and Aborted children are
+ * lost. Treatments of now go by ASBRU_RULE_2; ASBRU_RULE_1 is for records that were kept before it came. A record does not say by which
+ * rule it was kept: whoever keeps both kinds keeps them apart.
+ *
+ *
  * BUFFERS
  *
  * Each buffer is a pointer followed by its length in bytes. The pointer may be NULL where the length is 0. Any bytes and any lengths
@@ -89,8 +99,9 @@
  *
  * An answer is number + plan * 2^16 + step * 2^32; asbru_number, asbru_plan and asbru_step_of take it apart. ASBRU_DONE is success, and
  * each function below says what plan and step then are. Any other number of `enum asbru_answer` is a refusal. Checks are made in the
- * order of the numbers, each over all plans before the next (asbru_check: 1 to 9, 13, 14, then step by step 12 before 15), so a refusal
- * is the first thing wrong. `plan` is the lowest plan concerned; `step` counts from 1; both are 0 where the list names none.
+ * order of the numbers, but 17 first, each over all plans before the next (asbru_check: 17, 1 to 9, 13, 14, then step by step 12 before
+ * 15), so a refusal is the first thing wrong. `plan` is the lowest plan concerned; `step` counts from 1; both are 0 where the list names
+ * none.
  *
  *
  * WHAT A CALL TOUCHES
@@ -112,7 +123,7 @@ extern "C" {
 #endif
 
 /* Raised by one whenever a function, a format, a number or a rule changes: CHANGELOG.md says how. */
-#define ASBRU_VERSION 2
+#define ASBRU_VERSION 3
 
 /* Limits, and the sizes of what buffers hold. */
 enum asbru_size {
@@ -124,6 +135,12 @@ enum asbru_size {
     ASBRU_MOST_CHILDREN = 64, /* of one plan */
     ASBRU_MOST_STEPS = 65535, /* of a record, and the largest budget */
     ASBRU_NO_PARENT = 65535
+};
+
+/* Which children are lost to a plan with retry-aborted: see RULES 1 AND 2. */
+enum asbru_rule {
+    ASBRU_RULE_1 = 1, /* Rejected and Aborted ones: for records of before */
+    ASBRU_RULE_2 = 2  /* Rejected ones only: for what is treated now */
 };
 
 /* Byte 2 of a plan's entry. */
@@ -232,30 +249,32 @@ enum asbru_answer {
        where that is so; only of asbru_check */
     ASBRU_REFUSED_UNEXPLAINED = 15,
     /* the input is over 65536 bytes: of the program `aprcheck`, never of these functions */
-    ASBRU_REFUSED_INPUT_LONG = 16
+    ASBRU_REFUSED_INPUT_LONG = 16,
+    /* the rule number is neither 1 nor 2; looked for before all else */
+    ASBRU_REFUSED_RULE_NUMBER = 17
 };
 
 /*
- * One step of all plans, under these words. ASBRU_DONE, with plan 0 and step 0: the new states stand in `states`.
+ * One step of all plans, by a rule and under these words. ASBRU_DONE, with plan 0 and step 0: the new states stand in `states`.
  */
-uint64_t asbru_step(const uint8_t *table, size_t table_length, uint8_t *states, size_t states_length, const uint8_t *words,
-                    size_t words_length);
+uint64_t asbru_step(uint32_t rule, const uint8_t *table, size_t table_length, uint8_t *states, size_t states_length,
+                    const uint8_t *words, size_t words_length);
 
 /*
- * Steps under the same words until one more would change nothing, but no more steps than the budget. ASBRU_DONE: plan 0 says that it
- * rested, and step after how many steps, which is the least such number and at most the budget; plan 1 says that it is still moving,
- * and step is the budget. `states` then holds the states after that many steps. The states between are not shown, and a record needs
- * them: a host that keeps one makes single steps.
+ * Steps by a rule and under the same words until one more would change nothing, but no more steps than the budget. ASBRU_DONE: plan 0
+ * says that it rested, and step after how many steps, which is the least such number and at most the budget; plan 1 says that it is still
+ * moving, and step is the budget. `states` then holds the states after that many steps. The states between are not shown, and a record
+ * needs them: a host that keeps one makes single steps.
  */
-uint64_t asbru_rest(const uint8_t *table, size_t table_length, uint8_t *states, size_t states_length, const uint8_t *words,
-                    size_t words_length, uint16_t budget);
+uint64_t asbru_rest(uint32_t rule, const uint8_t *table, size_t table_length, uint8_t *states, size_t states_length,
+                    const uint8_t *words, size_t words_length, uint16_t budget);
 
 /*
- * Whether a treatment record can come from the rules under a table, for some picks. ASBRU_DONE, with plan 0: accepted, and step is the
- * number of steps. It writes nothing. With an empty record it tells whether a table is good: ASBRU_REFUSED_RECORD_HEADER, exactly where no
- * number from 1 to 9 is given.
+ * Whether a treatment record can come from the rules under a table, by the rule named and for some picks. ASBRU_DONE, with plan 0:
+ * accepted, and step is the number of steps. It writes nothing. With rule 1 or 2 and an empty record it tells whether a table is good:
+ * ASBRU_REFUSED_RECORD_HEADER, exactly where no number from 1 to 9 is given.
  */
-uint64_t asbru_check(const uint8_t *table, size_t table_length, const uint8_t *record, size_t record_length);
+uint64_t asbru_check(uint32_t rule, const uint8_t *table, size_t table_length, const uint8_t *record, size_t record_length);
 
 /* The number of an answer, one of `enum asbru_answer`. */
 static inline unsigned asbru_number(uint64_t answer) {

@@ -62,6 +62,7 @@ static inline const char *asbru_number_text(unsigned number) {
     case ASBRU_REFUSED_RECORD_LENGTH: return "the record does not end with a whole step, or has over 65535 steps";
     case ASBRU_REFUSED_UNEXPLAINED: return "no picks lead to the state shown";
     case ASBRU_REFUSED_INPUT_LONG: return "the input is over the program's 65536 bytes";
+    case ASBRU_REFUSED_RULE_NUMBER: return "the rule number is neither 1 nor 2";
     default: return "no number of this library";
     }
 }

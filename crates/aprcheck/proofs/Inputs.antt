@@ -34,6 +34,6 @@ module _ (input : List ℕ) where
   -- the verdict on the two parts, as the code cuts them
   pub answers :
       {v : Verdict} (k : ℕ) → k ≡ tableLength input → length input ≤ 65536
-      → Judged (take k input) (take (length input - k) (drop k input)) v
+      → Judged 2 (take k input) (take (length input - k) (drop k input)) v
       → Answered input v
   answers k e l j = judged l (rw (rest k, e) at j)

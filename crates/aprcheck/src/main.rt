@@ -101,7 +101,7 @@ fn report(input: &[u8], out: &mut [u8; 64]) -> usize
     line_of(plan_count(input), answer(input), out)
 }
 
-// The verdict on an input: its length is looked at first.
+// The verdict on an input, under rule 2: its length is looked at first.
 fn answer(input: &[u8]) -> Verdict
     ensures { λ r. ⌜ Answered (now (input .entry)) r ⌝ }
 {
@@ -109,7 +109,7 @@ fn answer(input: &[u8]) -> Verdict
         return Verdict::Refused(Refusal::InputLong);
     }
     let k = table_length(input);
-    record::check(&input[..k], &input[k..])
+    record::check(2, &input[..k], &input[k..])
 }
 
 // How many bytes of the input are the table.

@@ -32,16 +32,16 @@ begun-parent : (x y : PlanState) → T (suits x y) → T (not (dormant y)) → T
 begun-parent x y h k =
     pairs (λ a b. suits a b && not (dormant b)) (λ a b. not (dormant a)) tt x y (both (suits x y) (not (dormant y)) h k)
 
-module _ (t s w : List ℕ) (pick : ℕ → ℕ) (tree : Tree t) (v : Valid t (stateAt s)) where
+module _ (rule : ℕ) (t s w : List ℕ) (pick : ℕ → ℕ) (tree : Tree t) (v : Valid t (stateAt s)) where
   abbrev shown : List ℕ
-  shown = stepUnder t s w pick
+  shown = stepUnder rule t s w pick
 
   abbrev new : ℕ → PlanState
-  new p = next t s w (chosen t s pick) p
+  new p = next rule t s w (chosen t s pick) p
 
   shows : (p : ℕ) → p < planCount t → stateAt shown p ≡ new p
   unfolding stepUnder
-  shows = state-step t s w (chosen t s pick)
+  shows = state-step rule t s w (chosen t s pick)
 
   -- some plan, at most k above p, was retried
   record RetriedAbove (k p : ℕ) : Type 0 where
@@ -79,14 +79,14 @@ module _ (t s w : List ℕ) (pick : ℕ → ℕ) (tree : Tree t) (v : Valid t (s
   WentBack k p = p ≤ k → p < planCount t → T (not (dormant (stateAt s p))) → T (dormant (new p)) → RetriedAbove k p
 
   back-root : (k : ℕ) → WentBack k 0
-  back-root k h l x y = go (begins-anew (root-moved t s w (chosen t s pick)) x y)
+  back-root k h l x y = go (begins-anew (root-moved rule t s w (chosen t s pick)) x y)
     where
       go : ⊥ ⊎ T (is Aborted (stateAt s 0) && is Considered (new 0)) → RetriedAbove k 0
       go (inl z) = absurd z
       go (inr z) = by-itself k 0 l z
 
   back-child : (k j : ℕ) → WentBack k (parent t (suc j)) → WentBack (suc k) (suc j)
-  back-child k j above h l x y = go (begins-anew (child-moved t s w (chosen t s pick) tree q (suc j) c) x y)
+  back-child k j above h l x y = go (begins-anew (child-moved rule t s w (chosen t s pick) tree q (suc j) c) x y)
     where
       q : ℕ
       q = parent t (suc j)
@@ -117,14 +117,14 @@ module _ (t s w : List ℕ) (pick : ℕ → ℕ) (tree : Tree t) (v : Valid t (s
           let r = back p p (omega arith) l (states ended (λ y. not (dormant y)) tt (stateAt s p) h) x in
           inr (r .retried, record { isOrAbove = r .above; was = r .was; now = r .now })
       go (inr x) =
-          let m = plan-moved t s w (chosen t s pick) tree p l in
+          let m = plan-moved rule t s w (chosen t s pick) tree p l in
           inl (shows p l ∙ is-it (stateAt s p) (new p) (keeps-ending (m .moved) h x))
 
 pub endings-kept :
-    (t r : List ℕ) (steps : ℕ) → Judged t r (Accepted steps) → (i : ℕ) → i < steps
+    (rule : ℕ) (t r : List ℕ) (steps : ℕ) → Judged rule t r (Accepted steps) → (i : ℕ) → i < steps
     → EndingsKept t (statesBefore t r i) (statesOf t r i)
-endings-kept t r steps judged i l =
-    let step = accepted-step t r steps judged i l in
+endings-kept rule t r steps judged i l =
+    let step = accepted-step rule t r steps judged i l in
     let s = statesBefore t r i in
     rw (step .leads)
-    (step-keeps t s (wordsOf t r i) (step .pick) (tree t (passes t (step .done))) (passes-valid t s (step .before)))
+    (step-keeps rule t s (wordsOf t r i) (step .pick) (tree t (passes t (step .done))) (passes-valid t s (step .before)))

@@ -75,6 +75,6 @@ module _ (t : List ℕ) (st : ℕ → PlanState) (v : Valid t st) where
       go IfThenElse b k = kept IfThenElse b (λ a. tt)
 
 pub one-in-execution :
-    (t r : List ℕ) (steps : ℕ) → Judged t r (Accepted steps) → (i : ℕ) → i < steps → AtMostOne t (statesOf t r i)
-one-in-execution t r steps judged i l =
-    one-at-a-time t (stateAt (statesOf t r i)) (passes-valid t (statesOf t r i) (accepted-step t r steps judged i l .after))
+    (rule : ℕ) (t r : List ℕ) (steps : ℕ) → Judged rule t r (Accepted steps) → (i : ℕ) → i < steps → AtMostOne t (statesOf t r i)
+one-in-execution rule t r steps judged i l =
+    one-at-a-time t (stateAt (statesOf t r i)) (passes-valid t (statesOf t r i) (accepted-step rule t r steps judged i l .after))

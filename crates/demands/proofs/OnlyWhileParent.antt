@@ -14,8 +14,8 @@ use Rattle.demands.proofs.Accepted.{accepted-step}
 
 -- by check 11, which an accepted step keeps passed, an Activated child suits an Activated parent only
 pub only-while-parent :
-    (t r : List ℕ) (steps : ℕ) → Judged t r (Accepted steps) → (i : ℕ) → i < steps → OnlyWhileParent t (statesOf t r i)
-only-while-parent t r steps judged i l q c child activated =
+    (rule : ℕ) (t r : List ℕ) (steps : ℕ) → Judged rule t r (Accepted steps) → (i : ℕ) → i < steps → OnlyWhileParent t (statesOf t r i)
+only-while-parent rule t r steps judged i l q c child activated =
     let shown = stateAt (statesOf t r i) in
-    let suited = passes-valid t (statesOf t r i) (accepted-step t r steps judged i l .after) .each q c child in
+    let suited = passes-valid t (statesOf t r i) (accepted-step rule t r steps judged i l .after) .each q c child in
     is-it Activated (shown q) (states (λ x. suits x Activated) (is Activated) tt (shown q) (rw activated at suited))

@@ -157,19 +157,19 @@ pub record Chooses (t s : List ℕ) (now : PlanState) (q : ℕ) : Type 0 where
   pub stays : T (is Activated (stateAt s q) && is Activated now)
   pub free : T (mayActivate t s q)
 
-module _ (t s w : List ℕ) (now : PlanState) (q p : ℕ) where
+module _ (rule : ℕ) (t s w : List ℕ) (now : PlanState) (q p : ℕ) where
   pub same-move :
       (choice other : ℕ → ℕ) → (Chooses t s now q → stateAt s p ≡ Ready → eqb p (choice q) ≡ eqb p (other q))
-      → moveUnder t s w choice now q p ≡ moveUnder t s w other now q p
+      → moveUnder rule t s w choice now q p ≡ moveUnder rule t s w other now q p
   unfolding orders
   same-move choice other h = go (is Activated (stateAt s q) && is Activated now) refl
     where
       go :
           (b : Bool) → (is Activated (stateAt s q) && is Activated now) ≡ b
-          → moveOf t s w choice now (cond b (orders t s (word w q) choice q p) none) p
-          ≡ moveOf t s w other now (cond b (orders t s (word w q) other q p) none) p
+          → moveOf rule t s w choice now (cond b (orders t s (word w q) choice q p) none) p
+          ≡ moveOf rule t s w other now (cond b (orders t s (word w q) other q p) none) p
       go true e =
-          chosen-counts now (entry t p) (word w p) (tooManyLost t s p) (childrenComplete t s p) (bodyOf (entry t q))
+          chosen-counts now (entry t p) (word w p) (tooManyLost t s rule p) (childrenComplete t s p) (bodyOf (entry t q))
           (retryAborted (entry t q)) (eqb p (firstNotDone t s q)) (gateOpen t s q) (due t s (word w q) q p)
           (mayActivate t s q && eqb p (choice q)) (mayActivate t s q && eqb p (other q)) (stateAt s p) chooses
         where
@@ -187,11 +187,11 @@ module _ (t s w : List ℕ) (now : PlanState) (q p : ℕ) where
 
   pub shows-chosen :
       (choice : ℕ → ℕ) → Chooses t s now q → stateAt s p ≡ Ready
-      → is Activated (moveUnder t s w choice now q p) ≡ eqb p (choice q)
+      → is Activated (moveUnder rule t s w choice now q p) ≡ eqb p (choice q)
   unfolding orders
   shows-chosen choice c r =
       let was = is-it Activated (stateAt s q) (left (is Activated (stateAt s q)) (is Activated now) (c .stays)) in
       let still = is-it Activated now (right (is Activated (stateAt s q)) (is Activated now) (c .stays)) in
       rw (still, was, r, c .body, is-true (mayActivate t s q) (c .free))
-      (ready-shows (entry t p) (word w p) (tooManyLost t s p) (childrenComplete t s p) (retryAborted (entry t q))
+      (ready-shows (entry t p) (word w p) (tooManyLost t s rule p) (childrenComplete t s p) (retryAborted (entry t q))
       (eqb p (firstNotDone t s q)) (gateOpen t s q) (due t s (word w q) q p) (eqb p (choice q)))

@@ -21,55 +21,55 @@ use Rattle.demands.proofs.Step.{same-byte, length-step}
 use Rattle.demands.proofs.Witness.{witness-explains}
 
 -- picks that explain some plans explain the first of them
-pub explained-fewer : (t s w shown : List ℕ) (j k : ℕ) → j ≤ k → Explained t s w shown k → Explained t s w shown j
-explained-fewer t s w shown j k l e =
+pub explained-fewer : (rule : ℕ) (t s w shown : List ℕ) (j k : ℕ) → j ≤ k → Explained rule t s w shown k → Explained rule t s w shown j
+explained-fewer rule t s w shown j k l e =
     record {
       pick = e .pick;
       allowed = e .allowed;
-      agrees = sym (take-take j k (stepUnder t s w (e .pick)) l) ∙ ap (take j) (e .agrees) ∙ take-take j k shown l;
+      agrees = sym (take-take j k (stepUnder rule t s w (e .pick)) l) ∙ ap (take j) (e .agrees) ∙ take-take j k shown l;
     }
 
 -- as many states as plans
-pub length-under : (t s w : List ℕ) (pick : ℕ → ℕ) → length (stepUnder t s w pick) ≡ planCount t
+pub length-under : (rule : ℕ) (t s w : List ℕ) (pick : ℕ → ℕ) → length (stepUnder rule t s w pick) ≡ planCount t
 unfolding stepUnder
-length-under t s w pick = length-step t s w (chosen t s pick)
+length-under rule t s w pick = length-step rule t s w (chosen t s pick)
 
 -- picks that agree on every plan of the table give the same step
 pub same-picks :
-    (t s w : List ℕ) → Tree t → (pick other : ℕ → ℕ) → ((q : ℕ) → q < planCount t → pick q ≡ other q)
-    → stepUnder t s w pick ≡ stepUnder t s w other
+    (rule : ℕ) (t s w : List ℕ) → Tree t → (pick other : ℕ → ℕ) → ((q : ℕ) → q < planCount t → pick q ≡ other q)
+    → stepUnder rule t s w pick ≡ stepUnder rule t s w other
 unfolding stepUnder
-same-picks t s w shape pick other agree =
+same-picks rule t s w shape pick other agree =
     let n : ℕ = planCount t in
     let choice : ℕ → ℕ = chosen t s pick in
     let choice′ : ℕ → ℕ = chosen t s other in
     let alike =
-    same-step t s w shape choice choice′ n (omega arith)
+    same-step rule t s w shape choice choice′ n (omega arith)
     (λ q p c l m r.
     let above = after-parent t shape q p c in
     rw (same-chosen t s pick q other (agree q (omega (arith, above, c .within)))))
     in
-    sym (take-all n (stepBy t s w choice) (omega (arith, length-step t s w choice)))
+    sym (take-all n (stepBy rule t s w choice) (omega (arith, length-step rule t s w choice)))
     ∙ alike
-    ∙ take-all n (stepBy t s w choice′) (omega (arith, length-step t s w choice′))
+    ∙ take-all n (stepBy rule t s w choice′) (omega (arith, length-step rule t s w choice′))
 
-module _ (t s w shown : List ℕ) (done : tableCheck t ≡ Done) (p : ℕ) where
+module _ (rule : ℕ) (t s w shown : List ℕ) (done : tableCheck t ≡ Done) (p : ℕ) where
   abbrev witnessed : List ℕ
-  witnessed = stepUnder t s w (witness t s shown)
+  witnessed = stepUnder rule t s w (witness t s shown)
 
   -- where the step under the witness shows the same bytes, it explains them
   pub explained-so-far :
-      p ≤ planCount t → p ≤ length shown → ((k : ℕ) → k < p → byteAt witnessed k ≡ byteAt shown k) → Explained t s w shown p
+      p ≤ planCount t → p ≤ length shown → ((k : ℕ) → k < p → byteAt witnessed k ≡ byteAt shown k) → Explained rule t s w shown p
   explained-so-far within long same =
-      let first-long = length-take-le p witnessed (omega (arith, length-under t s w (witness t s shown))) in
-      witness-explains t s w shown done p within .1
+      let first-long = length-take-le p witnessed (omega (arith, length-under rule t s w (witness t s shown))) in
+      witness-explains rule t s w shown done p within .1
       (ext-getD 0 (take p witnessed) (take p shown) (first-long ∙ sym (length-take-le p shown long))
       (λ k l.
       let inside : k < p = omega (arith, first-long) in
       getD-take p witnessed k 0 inside ∙ same k inside ∙ sym (getD-take p shown k 0 inside)))
 
   -- and where a byte differs, no picks explain it
-  pub unexplained : p < planCount t → (byteAt witnessed p ≡ byteAt shown p → ⊥) → Explained t s w shown (suc p) → ⊥
+  pub unexplained : p < planCount t → (byteAt witnessed p ≡ byteAt shown p → ⊥) → Explained rule t s w shown (suc p) → ⊥
   unexplained within differs e =
-      let agrees = witness-explains t s w shown done (suc p) within .0 e in
+      let agrees = witness-explains rule t s w shown done (suc p) within .0 e in
       differs (same-byte (suc p) witnessed shown agrees p (omega arith))

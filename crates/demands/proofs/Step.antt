@@ -28,68 +28,69 @@ module _ (k : ℕ) (l m : List ℕ) (same : take k l ≡ take k m) (p : ℕ) (h 
   unfolding stateAt
   same-state = ap stateOf same-byte
 
-module _ (t s w : List ℕ) (choice : ℕ → ℕ) where
-  -- what plan q, whose new state is `now`, tells its child p, and how that moves
-  abbrev pub told : PlanState → ℕ → ℕ → Orders
-  told now q p = ordersIf t s w choice (stateAt s q) now q p
+-- what plan q, whose new state is `now`, tells its child p
+abbrev pub told : List ℕ → List ℕ → List ℕ → (ℕ → ℕ) → PlanState → ℕ → ℕ → Orders
+told t s w choice now q p = ordersIf t s w choice (stateAt s q) now q p
 
+module _ (rule : ℕ) (t s w : List ℕ) (choice : ℕ → ℕ) where
+  -- and how that moves it
   abbrev pub moveUnder : PlanState → ℕ → ℕ → PlanState
-  moveUnder now q p = moveOf t s w choice now (told now q p) p
+  moveUnder now q p = moveOf rule t s w choice now (told t s w choice now q p) p
 
   -- the new state of plan p
   unfoldable pub next : ℕ → PlanState
-  next p = newState t s w choice (stepFirst t s w choice p) p
+  next p = newState rule t s w choice (stepFirst rule t s w choice p) p
 
-  pub length-first : (k : ℕ) → length (stepFirst t s w choice k) ≡ k
+  pub length-first : (k : ℕ) → length (stepFirst rule t s w choice k) ≡ k
   unfolding stepFirst
   length-first zero = refl
   length-first (suc k) = let h = length-first k in simp length-append (omega arith)
 
-  pub take-first : (k j : ℕ) → j ≤ k → take j (stepFirst t s w choice k) ≡ stepFirst t s w choice j
+  pub take-first : (k j : ℕ) → j ≤ k → take j (stepFirst rule t s w choice k) ≡ stepFirst rule t s w choice j
   unfolding stepFirst
   take-first zero zero h = refl
   take-first zero (suc j) h = absurd (omega arith)
   take-first (suc k) j h = go (last-or j (suc k) (omega arith)) (take-first k j)
     where
       go :
-          (j ≡ suc k) ⊎ (j < suc k) → (j ≤ k → take j (stepFirst t s w choice k) ≡ stepFirst t s w choice j)
-          → take j (stepFirst t s w choice (suc k)) ≡ stepFirst t s w choice j
-      go (inl e) ih = let z = length-first (suc k) in rw e (take-all (suc k) (stepFirst t s w choice (suc k)) (omega arith))
+          (j ≡ suc k) ⊎ (j < suc k) → (j ≤ k → take j (stepFirst rule t s w choice k) ≡ stepFirst rule t s w choice j)
+          → take j (stepFirst rule t s w choice (suc k)) ≡ stepFirst rule t s w choice j
+      go (inl e) ih = let z = length-first (suc k) in rw e (take-all (suc k) (stepFirst rule t s w choice (suc k)) (omega arith))
       go (inr l) ih =
           let z = length-first k in
-          let y : j ≤ length (stepFirst t s w choice k) = omega arith in
+          let y : j ≤ length (stepFirst rule t s w choice k) = omega arith in
           rw take-append-le (ih (omega arith))
 
-  pub byte-first : (k p : ℕ) → p < k → byteAt (stepFirst t s w choice k) p ≡ code (next p)
+  pub byte-first : (k p : ℕ) → p < k → byteAt (stepFirst rule t s w choice k) p ≡ code (next p)
   unfolding stepFirst next
   byte-first zero p h = absurd (omega arith)
   byte-first (suc k) p h = go (last-or p k h) (byte-first k p)
     where
       go :
-          (p ≡ k) ⊎ (p < k) → (p < k → byteAt (stepFirst t s w choice k) p ≡ code (next p))
-          → byteAt (stepFirst t s w choice (suc k)) p ≡ code (next p)
-      go (inl e) ih = rw e (getD-at (stepFirst t s w choice k) _ [] 0 k (length-first k))
-      go (inr l) ih = List·getD-append (stepFirst t s w choice k) _ 0 p (rw length-first l) ∙ ih l
+          (p ≡ k) ⊎ (p < k) → (p < k → byteAt (stepFirst rule t s w choice k) p ≡ code (next p))
+          → byteAt (stepFirst rule t s w choice (suc k)) p ≡ code (next p)
+      go (inl e) ih = rw e (getD-at (stepFirst rule t s w choice k) _ [] 0 k (length-first k))
+      go (inr l) ih = List·getD-append (stepFirst rule t s w choice k) _ 0 p (rw length-first l) ∙ ih l
 
-  pub state-first : (k p : ℕ) → p < k → stateAt (stepFirst t s w choice k) p ≡ next p
+  pub state-first : (k p : ℕ) → p < k → stateAt (stepFirst rule t s w choice k) p ≡ next p
   unfolding stateAt
   state-first k p h = ap stateOf (byte-first k p h) ∙ stateOf-code (next p)
 
   -- the same of the whole step
-  pub length-step : length (stepBy t s w choice) ≡ planCount t
+  pub length-step : length (stepBy rule t s w choice) ≡ planCount t
   unfolding stepBy
   length-step = length-first (planCount t)
 
-  pub byte-step : (p : ℕ) → p < planCount t → byteAt (stepBy t s w choice) p ≡ code (next p)
+  pub byte-step : (p : ℕ) → p < planCount t → byteAt (stepBy rule t s w choice) p ≡ code (next p)
   unfolding stepBy
   byte-step = byte-first (planCount t)
 
-  pub state-step : (p : ℕ) → p < planCount t → stateAt (stepBy t s w choice) p ≡ next p
+  pub state-step : (p : ℕ) → p < planCount t → stateAt (stepBy rule t s w choice) p ≡ next p
   unfolding stepBy
   state-step = state-first (planCount t)
 
   -- how each plan moves
-  pub next-root : next 0 ≡ moveOf t s w choice Activated rootOrders 0
+  pub next-root : next 0 ≡ moveOf rule t s w choice Activated rootOrders 0
   unfolding next
   next-root = refl
 

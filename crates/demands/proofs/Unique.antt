@@ -1,4 +1,4 @@
--- One verdict: any two that are permitted on a record are equal, so are any two on an input of the program, and the program may
+-- One verdict: any two that are permitted on a record by a rule are equal, so are any two on an input of the program, and the program may
 -- print one line only. Assumes nothing.
 use Prim.Native.Nat.{ℕ, suc, _<_}
 use native.Mathlib.Omega.{arith}
@@ -25,21 +25,21 @@ same-reason : {o : Outcome} {why why′ : Refusal} → o ≡ Refused why → o �
 same-reason d e = cc
 
 -- A record whose form is good: it ends at the first step that fails, or not at all.
-module _ (t r : List ℕ) where
+module _ (rule : ℕ) (t r : List ℕ) where
   data Fails (i : ℕ) : Verdict → Type 0 where
     atWords : {why : Refusal} → wordsCheck t r i ≡ Refused why → Fails i (verdict.Refused why)
     atPlan :
-        (p : ℕ) → wordsCheck t r i ≡ Done → p < planCount t → ((j : ℕ) → j < p → ExplainedFirst t r i (suc j))
-        → (ExplainedFirst t r i (suc p) → ⊥)
+        (p : ℕ) → wordsCheck t r i ≡ Done → p < planCount t → ((j : ℕ) → j < p → ExplainedFirst rule t r i (suc j))
+        → (ExplainedFirst rule t r i (suc p) → ⊥)
         → Fails i (verdict.Refused (Unexplained (suc i) p))
 
   data Ends : Verdict → Type 0 where
-    stops : {v : Verdict} (i : ℕ) → i < stepCount t r → ((j : ℕ) → j < i → StepPasses t r j) → Fails i v → Ends v
-    whole : ((i : ℕ) → i < stepCount t r → StepPasses t r i) → Ends (verdict.Accepted (stepCount t r))
+    stops : {v : Verdict} (i : ℕ) → i < stepCount t r → ((j : ℕ) → j < i → StepPasses rule t r j) → Fails i v → Ends v
+    whole : ((i : ℕ) → i < stepCount t r → StepPasses rule t r i) → Ends (verdict.Accepted (stepCount t r))
 
-  fails-not : {i : ℕ} {v : Verdict} → Fails i v → StepPasses t r i → ⊥
+  fails-not : {i : ℕ} {v : Verdict} → Fails i v → StepPasses rule t r i → ⊥
   fails-not (atWords e) p = done-or-refused (p .words) e
-  fails-not {i} (atPlan k d l below n) p = n (explained-fewer t _ _ _ (suc k) (planCount t) l (p .states))
+  fails-not {i} (atPlan k d l below n) p = n (explained-fewer rule t _ _ _ (suc k) (planCount t) l (p .states))
 
   fails-once : {i : ℕ} {v v′ : Verdict} → Fails i v → Fails i v′ → v ≡ v′
   fails-once (atWords e) (atWords e′) = ap verdict.Refused (same-reason e e′)
@@ -57,22 +57,22 @@ module _ (t r : List ℕ) where
   ends-once (whole p) (stops i l before f) = absurd (fails-not f (p i l))
   ends-once (whole p) (whole p′) = refl
 
-  judged-ends : {v : Verdict} → recordCheck t r ≡ Done → Judged t r v → Ends v
+  judged-ends : {v : Verdict} → recordCheck rule t r ≡ Done → Judged rule t r v → Ends v
   judged-ends d (malformed e) = done-or-refused d e
   judged-ends d (badWords i _ l before e) = stops i l before (atWords e)
   judged-ends d (unexplained i p _ l before e h below n) = stops i l before (atPlan p e h below n)
   judged-ends d (accepted _ p) = whole p
 
-  judged-refused : {v : Verdict} (why : Refusal) → recordCheck t r ≡ Refused why → Judged t r v → v ≡ verdict.Refused why
+  judged-refused : {v : Verdict} (why : Refusal) → recordCheck rule t r ≡ Refused why → Judged rule t r v → v ≡ verdict.Refused why
   judged-refused why e (malformed e′) = ap verdict.Refused (same-reason e′ e)
   judged-refused why e (badWords i d l before x) = done-or-refused d e
   judged-refused why e (unexplained i p d l before x h below n) = done-or-refused d e
   judged-refused why e (accepted d p) = done-or-refused d e
 
-  pub judged-once : {v v′ : Verdict} → Judged t r v → Judged t r v′ → v ≡ v′
-  judged-once {v} {v′} a b = go (recordCheck t r) refl
+  pub judged-once : {v v′ : Verdict} → Judged rule t r v → Judged rule t r v′ → v ≡ v′
+  judged-once {v} {v′} a b = go (recordCheck rule t r) refl
     where
-      go : (o : Outcome) → recordCheck t r ≡ o → v ≡ v′
+      go : (o : Outcome) → recordCheck rule t r ≡ o → v ≡ v′
       go Done e = ends-once (judged-ends e a) (judged-ends e b)
       go (Refused why) e = judged-refused why e a ∙ sym (judged-refused why e b)
 
@@ -80,7 +80,7 @@ pub answered-once : (input : List ℕ) {v v′ : Verdict} → Answered input v �
 answered-once input (tooLong l) (tooLong l′) = refl
 answered-once input (tooLong l) (judged l′ b) = absurd (omega arith)
 answered-once input (judged l a) (tooLong l′) = absurd (omega arith)
-answered-once input (judged l a) (judged l′ b) = judged-once _ _ a b
+answered-once input (judged l a) (judged l′ b) = judged-once _ _ _ a b
 
 pub printed-once : (input out out′ : List ℕ) → Printed input out → Printed input out′ → out ≡ out′
 printed-once input out out′ a b =

@@ -86,7 +86,7 @@ first-lowest t s q c d h =
     first-le (λ k. not (done (retryAborted (entry t q)) (stateAt s k))) c (children t q) (sorted-children t q) (child-member t q c d) h
 
 module _
-    (t s w : List ℕ) (choice : ℕ → ℕ) (passed : Passes t) (v : Valid t (stateAt s)) (words : BranchesAgree t w) where
+    (rule : ℕ) (t s w : List ℕ) (choice : ℕ → ℕ) (passed : Passes t) (v : Valid t (stateAt s)) (words : BranchesAgree t w) where
   abbrev shape : Tree t
   shape = tree t passed
 
@@ -94,14 +94,14 @@ module _
   old p = stateAt s p
 
   abbrev new : ℕ → PlanState
-  new p = next t s w choice p
+  new p = next rule t s w choice p
 
   module _ (q p : ℕ) (c : SubPlan t q p) where
     abbrev orders : Orders
     orders = told t s w choice (new q) q p
 
     moved : Moved (new q) orders (old p) (new p)
-    moved = child-moved t s w choice shape q p c
+    moved = child-moved rule t s w choice shape q p c
 
     parent-within : q < planCount t
     parent-within = omega (arith, after-parent t shape q p c, c .within)
@@ -111,8 +111,8 @@ module _
         suits-parent moved (activates-while t s w choice (new q) q p)
         (λ h. unbegun-suits (old q) (old p) (was-unbegun (parent-moved .moved) h) (v .each q p c))
       where
-        parent-moved : SomeMove t s w choice q
-        parent-moved = plan-moved t s w choice shape q parent-within
+        parent-moved : SomeMove rule t s w choice q
+        parent-moved = plan-moved rule t s w choice shape q parent-within
 
     -- in execution: it was so before, or q was free and chose it
     in-execution :
@@ -229,13 +229,14 @@ same-valid t tree f g e v =
     }
 
 pub stepBy-passes :
-    (t s w : List ℕ) (choice : ℕ → ℕ) → Passes t → PassesStates t s → BranchesAgree t w → PassesStates t (stepBy t s w choice)
-stepBy-passes t s w choice passed p words =
-    valid-passes t (stepBy t s w choice)
-    (same-valid t (tree t passed) (next t s w choice) _ (state-step t s w choice)
-    (next-valid t s w choice passed (passes-valid t s p) words))
-    (length-step t s w choice)
-    (λ k l. rw (byte-step t s w choice k l) (code-isCode (next t s w choice k)))
+    (rule : ℕ) (t s w : List ℕ) (choice : ℕ → ℕ) → Passes t → PassesStates t s → BranchesAgree t w
+    → PassesStates t (stepBy rule t s w choice)
+stepBy-passes rule t s w choice passed p words =
+    valid-passes t (stepBy rule t s w choice)
+    (same-valid t (tree t passed) (next rule t s w choice) _ (state-step rule t s w choice)
+    (next-valid rule t s w choice passed (passes-valid t s p) words))
+    (length-step rule t s w choice)
+    (λ k l. rw (byte-step rule t s w choice k l) (code-isCode (next rule t s w choice k)))
 
 -- plans that have not begun
 pub start-passes : (t : List ℕ) → tableCheck t ≡ Done → PassesStates t (replicate (planCount t) (code Inactive))
@@ -254,6 +255,7 @@ start-passes t done =
     idle = record { each = λ q c p. tt; one = λ q c d b p r x y. absurd x; later = λ q c d p r l h. refl }
 
 pub step-passes :
-    (t s w : List ℕ) (pick : ℕ → ℕ) → tableCheck t ≡ Done → PassesStates t s → BranchesAgree t w → PassesStates t (stepUnder t s w pick)
+    (rule : ℕ) (t s w : List ℕ) (pick : ℕ → ℕ) → tableCheck t ≡ Done → PassesStates t s → BranchesAgree t w
+    → PassesStates t (stepUnder rule t s w pick)
 unfolding stepUnder
-step-passes t s w pick done = stepBy-passes t s w (chosen t s pick) (passes t done)
+step-passes rule t s w pick done = stepBy-passes rule t s w (chosen t s pick) (passes t done)

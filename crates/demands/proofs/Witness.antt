@@ -33,25 +33,26 @@ some-ready t s q p c r = found-some (isReady s) (child-member t q p c) (rw r tt)
 
 -- the witness chooses what is shown
 pub witness-step :
-    (t s w shown : List ℕ) → Tree t → (k : ℕ) → k ≤ planCount t
-    → take k (stepUnder t s w (witness t s shown)) ≡ take k (stepBy t s w (activatedChild t s shown))
+    (rule : ℕ) (t s w shown : List ℕ) → Tree t → (k : ℕ) → k ≤ planCount t
+    → take k (stepUnder rule t s w (witness t s shown)) ≡ take k (stepBy rule t s w (activatedChild t s shown))
 unfolding stepUnder
-witness-step t s w shown tree k l =
-    same-step t s w tree (chosen t s (witness t s shown)) (activatedChild t s shown) k l
+witness-step rule t s w shown tree k l =
+    same-step rule t s w tree (chosen t s (witness t s shown)) (activatedChild t s shown) k l
     (λ q p c h m r. rw (witness-chooses t s shown q (m .body) (some-ready t s q p c r)))
 
 -- Picks that explain the first k states, and the choice of what is shown, move these plans alike.
-module _ (t s w shown : List ℕ) (tree : Tree t) (k : ℕ) (within : k ≤ planCount t) (explained : Explained t s w shown k) where
+module _
+    (rule : ℕ) (t s w shown : List ℕ) (tree : Tree t) (k : ℕ) (within : k ≤ planCount t) (explained : Explained rule t s w shown k) where
   abbrev choice : ℕ → ℕ
   choice = chosen t s (explained .pick)
 
-  shows-next : (p : ℕ) → p < k → stateAt shown p ≡ next t s w choice p
+  shows-next : (p : ℕ) → p < k → stateAt shown p ≡ next rule t s w choice p
   unfolding stepUnder
   shows-next p l =
-      sym (same-state k (stepBy t s w choice) shown (explained .agrees) p l) ∙ state-step t s w choice p (omega arith)
+      sym (same-state k (stepBy rule t s w choice) shown (explained .agrees) p l) ∙ state-step rule t s w choice p (omega arith)
 
   same-choice :
-      (q p : ℕ) → SubPlan t q p → p < k → Chooses t s (next t s w choice q) q → stateAt s p ≡ Ready
+      (q p : ℕ) → SubPlan t q p → p < k → Chooses t s (next rule t s w choice q) q → stateAt s p ≡ Ready
       → eqb p (choice q) ≡ eqb p (activatedChild t s shown q)
   same-choice q p c l m r =
       activated-agrees t s shown q (choice q) p
@@ -59,12 +60,12 @@ module _ (t s w shown : List ℕ) (tree : Tree t) (k : ℕ) (within : k ≤ plan
     where
       marked : (r : ℕ) → ReadyChild t s q r → r ≤ p → is Activated (stateAt shown r) ≡ eqb r (choice q)
       marked r f h =
-          rw (shows-next r (omega arith), next-child t s w choice tree q r (member-child t q r (f .member)))
-          (shows-chosen t s w (next t s w choice q) q r choice m (is-it Ready (stateAt s r) (f .passes)))
+          rw (shows-next r (omega arith), next-child rule t s w choice tree q r (member-child t q r (f .member)))
+          (shows-chosen rule t s w (next rule t s w choice q) q r choice m (is-it Ready (stateAt s r) (f .passes)))
 
-  pub shown-explains : take k (stepBy t s w (activatedChild t s shown)) ≡ take k shown
+  pub shown-explains : take k (stepBy rule t s w (activatedChild t s shown)) ≡ take k shown
   unfolding stepUnder
-  shown-explains = sym (same-step t s w tree choice (activatedChild t s shown) k within same-choice) ∙ explained .agrees
+  shown-explains = sym (same-step rule t s w tree choice (activatedChild t s shown) k within same-choice) ∙ explained .agrees
 
 -- by check 8 an any-order plan has children, so that there is a pick for it
 pub has-children : (t : List ℕ) → Passes t → (q : ℕ) → q < planCount t → bodyOf (entry t q) ≡ AnyOrder → 0 < length (children t q)
@@ -82,12 +83,12 @@ pub witness-small : (t s shown : List ℕ) → tableCheck t ≡ Done → (q : �
 witness-small t s shown done q l = witness-narrow t s shown q (tree t (passes t done) .narrow)
 
 pub witness-explains :
-    (t s w shown : List ℕ) → tableCheck t ≡ Done → (k : ℕ) → k ≤ planCount t
-    → Explained t s w shown k ↔ (take k (stepUnder t s w (witness t s shown)) ≡ take k shown)
-witness-explains t s w shown done k l =
+    (rule : ℕ) (t s w shown : List ℕ) → tableCheck t ≡ Done → (k : ℕ) → k ≤ planCount t
+    → Explained rule t s w shown k ↔ (take k (stepUnder rule t s w (witness t s shown)) ≡ take k shown)
+witness-explains rule t s w shown done k l =
     let passed = passes t done in
     let down = tree t passed in (
-      (λ e. witness-step t s w shown down k l ∙ shown-explains t s w shown down k l e),
+      (λ e. witness-step rule t s w shown down k l ∙ shown-explains rule t s w shown down k l e),
       (λ e. record {
         pick = witness t s shown;
         allowed = λ q h. witness-allowed t s shown q (has-children t passed q h);

@@ -11,7 +11,7 @@ use Rattle.rules.specs.Bytes.{byteAt}
 use Rattle.rules.specs.Table.{planCount, entry}
 use Rattle.rules.specs.Words.{word}
 use Rattle.rules.specs.HandedIn.{badState}
-use Rattle.rules.specs.Answers.{wrongWord, badWord, tableCheck, lentCheck, callCheck}
+use Rattle.rules.specs.Answers.{wrongWord, badWord, ruleCheck, tableCheck, lentCheck, callCheck}
 use Rattle.rules.specs.declared.PlanEntry.{PlanEntry}
 use Rattle.rules.specs.declared.Refusal.{Refusal}
 use Rattle.rules.specs.declared.Refusal.the-variants.{Lengths, State, Word}
@@ -89,14 +89,14 @@ module _ (t s w : List ℕ) (n : ℕ) (whole : n ≡ planCount t) where
           )
 
 -- A call that passes: its table, what is lent with it, and of that the lengths and the states.
-module _ (t s w : List ℕ) (done : callCheck t s w ≡ Done) where
+module _ (rule : ℕ) (t s w : List ℕ) (done : callCheck rule t s w ≡ Done) where
   pub table-passes : tableCheck t ≡ Done
   unfolding callCheck
-  table-passes = first-done (tableCheck t) _ done
+  table-passes = first-done (tableCheck t) _ (then-done (ruleCheck rule) _ done)
 
   pub lent-passes : lentCheck t s w ≡ Done
   unfolding callCheck
-  lent-passes = then-done (tableCheck t) _ done
+  lent-passes = then-done (tableCheck t) _ (then-done (ruleCheck rule) _ done)
 
   pub lengths : (length s ≡ planCount t) × (length w ≡ 4 * planCount t)
   unfolding lentCheck
@@ -115,24 +115,33 @@ module _ (t s w : List ℕ) (done : callCheck t s w ≡ Done) where
   unfolding lentCheck
   words-in = call-words t w (nowhere (badWord t w) (planCount t) (at-done _ _ (then-done _ _ (then-done _ _ lent-passes))))
 
--- a call's checks are its table's, and then those of what is lent with it
-module _ (t s w ranks counts names : List ℕ) where
-  pub call-refused : (why : Refusal) → tableCheck t ≡ Refused why → Called t s w ranks counts names (Refused why)
-  unfolding callCheck
-  call-refused why e = record { is = sym (then-stops (tableCheck t) _ why e); facts = λ d. refused-not-done why d }
+-- a call's checks are that of its rule number, its table's, and then those of what is lent with it
+module _ (rule : ℕ) (t s w ranks counts names : List ℕ) where
+  abbrev CalledSo : Outcome → Type 0
+  CalledSo outcome = Called rule t s w ranks counts names outcome
 
-  pub call-lent :
-      (r : Outcome) → tableCheck t ≡ Done → Facts t ranks counts names → r ≡ lentCheck t s w → Called t s w ranks counts names r
+  pub call-unruled : (why : Refusal) → ruleCheck rule ≡ Refused why → CalledSo (Refused why)
   unfolding callCheck
-  call-lent r d known e = record { is = e ∙ sym (then-next (tableCheck t) _ d); facts = λ x. known }
+  call-unruled why e = record { is = sym (then-stops (ruleCheck rule) _ why e); facts = λ d. refused-not-done why d }
+
+  module _ (ruled : ruleCheck rule ≡ Done) where
+    pub call-refused : (why : Refusal) → tableCheck t ≡ Refused why → CalledSo (Refused why)
+    unfolding callCheck
+    call-refused why e =
+        record { is = sym (then-next (ruleCheck rule) _ ruled ∙ then-stops (tableCheck t) _ why e); facts = λ d. refused-not-done why d }
+
+    pub call-lent : (r : Outcome) → tableCheck t ≡ Done → Facts t ranks counts names → r ≡ lentCheck t s w → CalledSo r
+    unfolding callCheck
+    call-lent r d known e =
+        record { is = e ∙ sym (then-next (ruleCheck rule) _ ruled ∙ then-next (tableCheck t) _ d); facts = λ x. known }
 
   -- where it passes the plans may move
   pub may-move :
-      callCheck t s w ≡ Done → Facts t ranks counts names → planCount t ≤ length ranks → planCount t ≤ length names
+      callCheck rule t s w ≡ Done → Facts t ranks counts names → planCount t ≤ length ranks → planCount t ≤ length names
       → MayMove t s w ranks names
   may-move d known ranks-room names-room =
       record {
-        prepared = prepared t ranks counts names (table-passes t s w d) known ranks-room names-room;
-        passes = handed-in t s w d;
-        words = lengths t s w d .1;
+        prepared = prepared t ranks counts names (table-passes rule t s w d) known ranks-room names-room;
+        passes = handed-in rule t s w d;
+        words = lengths rule t s w d .1;
       }

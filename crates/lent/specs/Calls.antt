@@ -1,4 +1,4 @@
--- What is known in and after checks 10 to 12 of a call. Assumes nothing.
+-- What is known in and after the checks of a call. Assumes nothing.
 use Prim.Native.Nat.{ℕ, _+_, _*_, _≤_, _<_}
 use mathlib.Core.Path.{_≡_}
 use mathlib.Core.List.{List}
@@ -33,9 +33,9 @@ pub record Tabled (t counts : List ℕ) : Type 0 where
   pub room : planCount t ≤ length counts
   pub counted : (q : ℕ) → q < planCount t → byteAt counts q ≡ length (children t q)
 
--- a call has been checked, with this outcome; where it passes the table's facts are known
-pub record Called (t s w ranks counts names : List ℕ) (outcome : Outcome) : Type 0 where
-  pub is : outcome ≡ callCheck t s w
+-- a call by a rule has been checked, with this outcome; where it passes the table's facts are known
+pub record Called (rule : ℕ) (t s w ranks counts names : List ℕ) (outcome : Outcome) : Type 0 where
+  pub is : outcome ≡ callCheck rule t s w
   pub facts : outcome ≡ Done → Facts t ranks counts names
 
 -- a table, its facts, states that pass and words of the right length: the plans may move

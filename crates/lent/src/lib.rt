@@ -1,4 +1,4 @@
-// What a call lends: checks 10 to 12 of documents 01 and 02, of its states and words, behind the checks of its table.
+// What a call lends: checks 10 to 12 of documents 01 and 02, of its states and words, behind those of its rule number and its table.
 // Each check costs O(n) for n plans; nothing is allocated. Assumes nothing.
 ghost use mathlib.Core.Path.{_≡_};
 ghost use mathlib.Core.Bool.{_||_};
@@ -21,11 +21,13 @@ use rules::Outcome;
 use rules::PlanEntry;
 use rules::PlanState;
 use rules::Refusal;
+use rules::is_rule;
 use rules::pick_of;
 use table::read_table;
 
-// Checks 1 to 12 of a call. Where they pass, the buffers hold the table's facts.
+// Checks 17 and 1 to 12 of a call. Where they pass, the buffers hold the table's facts.
 pub fn check_call(
+    rule: u32,
     table: &[u8],
     states: &[u8],
     words: &[u8],
@@ -34,9 +36,12 @@ pub fn check_call(
     names: &mut [u64],
 ) -> Outcome
     requires { ⌜ FactsRoom (now table) (now ranks) (now counts) (now names) ⌝ }
-    ensures { λ r. ⌜ Called (now (table .entry)) (now (states .entry)) (now (words .entry))
+    ensures { λ r. ⌜ Called rule (now (table .entry)) (now (states .entry)) (now (words .entry))
         (now (ranks .exit)) (now (counts .exit)) (now (names .exit)) r ⌝ }
 {
+    if !is_rule(rule) {
+        return Outcome::Refused(Refusal::RuleNumber);
+    }
     match read_table(table, ranks, counts, names) {
         Outcome::Refused(why) => Outcome::Refused(why),
         Outcome::Done => check_lent(table, counts, states, words),

@@ -37,6 +37,7 @@ use Rattle.rules.specs.Table.{
 }
 use Rattle.rules.specs.Step.{
   done,
+  lostStates,
   stateOfFirst,
   stateOfSecond,
   firstNotDone,
@@ -199,13 +200,14 @@ module _ {t s : List ℕ} {q : ℕ} where
   -- how many named children are in one of the states, or in none
   module _ {e : PlanEntry} {names : ℕ} (own : OwnEntry t q e names) where
     pub lost-is :
-        {lost : ℕ} → InStates t s q (Rejected ∷ Aborted ∷ []) lost
-        → not (enough e (ones (names - bitAnd names lost))) ≡ tooManyLost t s q
+        (rule : ℕ) {lost : ℕ} → InStates t s q (lostStates rule (retryAborted e)) lost
+        → not (enough e (ones (names - bitAnd names lost))) ≡ tooManyLost t s rule q
     unfolding tooManyLost
-    lost-is h =
+    lost-is rule h =
+        let lost : ℕ → Bool = (λ c. oneOf (lostStates rule (retryAborted (entry t q))) (stateAt s c)) in
         ap not
-        (waits t q _ _ (λ c. not (oneOf (Rejected ∷ Aborted ∷ []) (stateAt s c))) (own .is)
-        (rw (own .collected, h .word) (set-less t q (λ c. named (entry t c)) (λ c. oneOf (Rejected ∷ Aborted ∷ []) (stateAt s c)))))
+        (waits t q _ _ (λ c. not (lost c)) (own .is)
+        (rw (own .collected, (rw (own .is) at h) .word) (set-less t q (λ c. named (entry t c)) lost)))
 
     pub complete-is :
         {completed : ℕ} {over : Bool} → InStates t s q (Completed ∷ []) completed → over ≡ allEnded t s q

@@ -62,18 +62,18 @@ module _ (t s w : List ℕ) (choice : ℕ → ℕ) where
 
   -- the new state of a plan, the root's as of a child
   new-state :
-      (new : List ℕ) (p : ℕ)
-      → newState t s w choice new p
-      ≡ moveOf t s w choice (parentState t new p) (ordersAt t s w choice (parentState t new p) p) p
-  new-state new zero = refl
-  new-state new (suc p) = refl
+      (rule : ℕ) (new : List ℕ) (p : ℕ)
+      → newState rule t s w choice new p
+      ≡ moveOf rule t s w choice (parentState t new p) (ordersAt t s w choice (parentState t new p) p) p
+  new-state rule new zero = refl
+  new-state rule new (suc p) = refl
 
   -- and as a move, from what the code has in hand
   pub as-move :
-      (new : List ℕ) (p : ℕ) (up old : PlanState) → up ≡ parentState t new p → old ≡ stateAt s p
-      → newState t s w choice new p
-      ≡ move up (ordersAt t s w choice up p) (entry t p) (word w p) (tooManyLost t s p) (childrenComplete t s p) old
-  as-move new p up old eu eo = rw (eu, eo) (new-state new p)
+      (rule : ℕ) (new : List ℕ) (p : ℕ) (up old : PlanState) → up ≡ parentState t new p → old ≡ stateAt s p
+      → newState rule t s w choice new p
+      ≡ move up (ordersAt t s w choice up p) (entry t p) (word w p) (tooManyLost t s rule p) (childrenComplete t s p) old
+  as-move rule new p up old eu eo = rw (eu, eo) (new-state rule new p)
 
 -- under a parent in execution a Completed or Rejected plan stays
 abbrev overKeys : List ℕ

@@ -111,9 +111,9 @@ module _ (sets : List ℕ) (q : ℕ) where
   abbrev pub TellsAllEnded : Body → Bool → Type 0
   TellsAllEnded body r = (t s : List ℕ) → ChildWords t s q sets → body ≡ bodyOf (entry t q) → r ≡ allEnded t s q
 
-  -- whether too many children of q in the table t are lost, and whether they let q complete
-  abbrev pub TellsLost : List ℕ → Bool → Type 0
-  TellsLost t r = (s : List ℕ) → ChildWords t s q sets → r ≡ tooManyLost t s q
+  -- whether, by a rule, too many children of q in the table t are lost, and whether they let q complete
+  abbrev pub TellsLost : ℕ → List ℕ → Bool → Type 0
+  TellsLost rule t r = (s : List ℕ) → ChildWords t s q sets → r ≡ tooManyLost t s rule q
 
   abbrev pub TellsComplete : List ℕ → Bool → Type 0
   TellsComplete t r = (s : List ℕ) → ChildWords t s q sets → r ≡ childrenComplete t s q

@@ -9,7 +9,7 @@ ghost use Rattle.rules.specs.Table.{planCount, parent, entry};
 ghost use Rattle.rules.specs.Words.{word};
 ghost use Rattle.rules.specs.Words.{holds as Words·holds, satisfiable as Words·satisfiable};
 ghost use Rattle.rules.specs.declared.PlanState.the-variants.{Inactive, Considered, Possible, Activated, Suspended};
-ghost use Rattle.rules.specs.Step.{none, rootOrders, ordersOfTwo, ordersOf, afterAbort, afterSuspend, newState};
+ghost use Rattle.rules.specs.Step.{none, rootOrders, ordersOfTwo, ordersOf, afterAbort, afterSuspend, lostStates, newState};
 ghost use Rattle.rules.specs.Step.{chosen as Step·chosen};
 ghost use Rattle.moves.specs.ChildWords.{HasWords};
 ghost use Rattle.moves.specs.Tells.{TellsFirstNotDone, TellsGate, TellsMayActivate, TellsChosenRank, TellsOrders, TellsOrdersIf};
@@ -37,12 +37,13 @@ use rules::is_set;
 // `orders(..).considers`: the parent considers it; likewise `activates` and `retries`. Between tests and between states `|` is or,
 // between tests `&` is and; `!` before a test is not. `||` is or too: it asks its right side only if the left says no, which spares plans
 // under an Inactive one the rest of the first test.
-// `table` has the plans' entries, `words` their input words, `old` the states before the step, `new` the new states of the plans before
-// p, its parent's among them: parents stand before their children, and plans move in table order. For each plan, `ranks` has its rank
-// among its siblings, `names` its children that are named in its wait-for, `sets` its children by old state, `picks` the rank that it
-// picks. The root acts as if under a parent that stays Activated, considers it when Inactive, activates it when Ready and never retries
-// it.
+// `rule` is the number of the rule, which says what children are lost; `table` has the plans' entries, `words` their input words, `old`
+// the states before the step, `new` the new states of the plans before p, its parent's among them: parents stand before their children,
+// and plans move in table order. For each plan, `ranks` has its rank among its siblings, `names` its children that are named in its
+// wait-for, `sets` its children by old state, `picks` the rank that it picks. The root acts as if under a parent that stays Activated,
+// considers it when Inactive, activates it when Ready and never retries it.
 pub fn next_state(
+    rule: u32,
     table: &[u8],
     ranks: &[u8],
     names: &[u64],
@@ -54,7 +55,7 @@ pub fn next_state(
     p: usize,
 ) -> PlanState
     requires { ⌜ MoveFacts (now table) (now old) (now ranks) (now names) (now sets) (now picks) (now words) (now new) p ⌝ }
-    ensures { λ r. ⌜ r ≡ newState (now (table .entry)) (now (old .entry)) (now (words .entry))
+    ensures { λ r. ⌜ r ≡ newState rule (now (table .entry)) (now (old .entry)) (now (words .entry))
         (Step·chosen (now (table .entry)) (now (old .entry)) (picksOf (now (picks .entry)))) (now (new .entry)) p ⌝ }
 {
     let parent = parent_state(table, new, p);
@@ -108,7 +109,9 @@ pub fn next_state(
             }
         }
         PlanState::Activated => {
-            if holds(Condition::Abort, table, words, p) | too_many_lost(table, names, sets, p) {
+            if holds(Condition::Abort, table, words, p)
+                | too_many_lost(rule, table, names, sets, p)
+            {
                 PlanState::Aborted
             } else if parent.is(PlanState::Suspended) | holds(Condition::Suspend, table, words, p) {
                 PlanState::Suspended
@@ -121,7 +124,9 @@ pub fn next_state(
             }
         }
         PlanState::Suspended => {
-            if holds(Condition::Abort, table, words, p) | too_many_lost(table, names, sets, p) {
+            if holds(Condition::Abort, table, words, p)
+                | too_many_lost(rule, table, names, sets, p)
+            {
                 PlanState::Aborted
             } else if parent.is(PlanState::Activated)
                 & holds(Condition::Reactivate, table, words, p)
@@ -171,14 +176,29 @@ fn satisfiable(c: Condition, table: &[u8], words: &[u8], p: usize) -> bool
     entry_at(table, p).satisfiable(c, word_at(words, p))
 }
 
-// Whether too many children of plan p are lost: wait-for fails of those whose old state is neither Rejected nor Aborted.
-fn too_many_lost(table: &[u8], names: &[u64], sets: &[u64], p: usize) -> bool
+// Whether too many children of plan p are lost: wait-for fails of those that are not. Lost, by their old states, are the Rejected and the
+// Aborted ones; by rule 2, if p has retry-aborted, the Rejected ones only.
+fn too_many_lost(rule: u32, table: &[u8], names: &[u64], sets: &[u64], p: usize) -> bool
     requires { ⌜ OwnChildren (now table) (now names) (now sets) p ⌝ }
-    ensures { λ r. ⌜ TellsLost (now (sets .entry)) p (now (table .entry)) r ⌝ }
+    ensures { λ r. ⌜ TellsLost (now (sets .entry)) p rule (now (table .entry)) r ⌝ }
 {
+    let e = entry_at(table, p);
     let named = names[p];
-    let lost = in_state(sets, p, PlanState::Rejected) | in_state(sets, p, PlanState::Aborted);
-    !entry_at(table, p).wait_for(named - (named & lost))
+    !e.wait_for(named - (named & lost(rule, e.retries_aborted(), sets, p)))
+}
+
+// The lost children of plan p, as a word; `again` is its retry-aborted.
+fn lost(rule: u32, again: bool, sets: &[u64], p: usize) -> u64
+    requires { ⌜ HasWords (now sets) p ⌝ }
+    ensures { λ r. ⌜ TellsWord (now (sets .entry)) p (lostStates rule again) r ⌝ }
+{
+    let rejected = in_state(sets, p, PlanState::Rejected);
+    // read before the test, so that no branch comes of it
+    let aborted = in_state(sets, p, PlanState::Aborted);
+    if (rule == 2) & again {
+        return rejected;
+    }
+    rejected | aborted
 }
 
 // Whether the children of plan p, by their old states, let it complete: wait-for holds of the Completed ones, and, with

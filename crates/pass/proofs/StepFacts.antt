@@ -109,9 +109,9 @@ module _ (t s w ranks names : List ℕ) (moves : MayMove t s w ranks names) (n :
     taken-small q l = omega (arith, taken .taken q l)
 
     -- under them the step is the words' own
-    pub taken-step : stepUnder t s w (picksOf picks) ≡ step t s w
+    pub taken-step : (rule : ℕ) → stepUnder rule t s w (picksOf picks) ≡ step rule t s w
     unfolding step
-    taken-step = same-picks t s w shape (picksOf picks) (λ q. pickOf (word w q)) (λ q l. taken .taken q (omega arith))
+    taken-step rule = same-picks rule t s w shape (picksOf picks) (λ q. pickOf (word w q)) (λ q l. taken .taken q (omega arith))
 
 -- after they have moved to other states that pass, what changed may be moved in the words
 pub may-resurvey :

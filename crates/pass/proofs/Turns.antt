@@ -13,32 +13,32 @@ use Rattle.rules.specs.declared.PlanState.{PlanState}
 use Rattle.rules.proofs.Codes.{state-is}
 use Rattle.children.specs.Sets.{Beyond}
 
-module _ (t s w : List ℕ) (choice : ℕ → ℕ) where
+module _ (rule : ℕ) (t s w : List ℕ) (choice : ℕ → ℕ) where
   -- of the new states only the parent's is read
   prefix-state :
-      (new : List ℕ) (p : ℕ) → (0 < p → parent t p < p) → newState t s w choice (take p new) p ≡ newState t s w choice new p
+      (new : List ℕ) (p : ℕ) → (0 < p → parent t p < p) → newState rule t s w choice (take p new) p ≡ newState rule t s w choice new p
   prefix-state new zero down = refl
   prefix-state new (suc k) down =
       let q : ℕ = parent t (suc k) in
-      ap (λ (x : PlanState). moveOf t s w choice x (ordersIf t s w choice (stateAt s q) x q (suc k)) (suc k))
+      ap (λ (x : PlanState). moveOf rule t s w choice x (ordersIf t s w choice (stateAt s q) x q (suc k)) (suc k))
       (state-is (take (suc k) new) q ∙ ap stateOf (getD-take (suc k) new q 0 (down (omega arith))) ∙ sym (state-is new q))
 
-  pub none-moved : (new : List ℕ) → take 0 new ≡ stepFirst t s w choice 0
+  pub none-moved : (new : List ℕ) → take 0 new ≡ stepFirst rule t s w choice 0
   unfolding stepFirst
   none-moved new = refl
 
   pub one-more-moved :
-      (new : List ℕ) (p v : ℕ) → (0 < p → parent t p < p) → p < length new → v ≡ code (newState t s w choice new p)
-      → take p new ≡ stepFirst t s w choice p → take (p + 1) (set new p v) ≡ stepFirst t s w choice (p + 1)
+      (new : List ℕ) (p v : ℕ) → (0 < p → parent t p < p) → p < length new → v ≡ code (newState rule t s w choice new p)
+      → take p new ≡ stepFirst rule t s w choice p → take (p + 1) (set new p v) ≡ stepFirst rule t s w choice (p + 1)
   unfolding stepFirst
   one-more-moved new p v down l e before =
       rw (add-one p)
       (take-suc-set new p v l
       ∙ ap (λ (x : List ℕ). x ++ (v ∷ [])) before
-      ∙ ap (λ (x : ℕ). stepFirst t s w choice p ++ (x ∷ []))
+      ∙ ap (λ (x : ℕ). stepFirst rule t s w choice p ++ (x ∷ []))
       (e
       ∙ ap code
-      (sym (prefix-state new p down) ∙ ap (λ (x : List ℕ). newState t s w choice x p) before)))
+      (sym (prefix-state new p down) ∙ ap (λ (x : List ℕ). newState rule t s w choice x p) before)))
 
 -- what is written below p, and so below p + 1
 pub none-written : (new : List ℕ) → Beyond 0 new new
@@ -52,6 +52,6 @@ one-more-written old new p v before =
     }
 
 pub all-moved :
-    (t s w : List ℕ) (pick : ℕ → ℕ) → stepFirst t s w (chosen t s pick) (planCount t) ≡ stepUnder t s w pick
+    (rule : ℕ) (t s w : List ℕ) (pick : ℕ → ℕ) → stepFirst rule t s w (chosen t s pick) (planCount t) ≡ stepUnder rule t s w pick
 unfolding stepUnder stepBy
-all-moved t s w pick = refl
+all-moved rule t s w pick = refl

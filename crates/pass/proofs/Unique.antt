@@ -32,11 +32,11 @@ take-picks-once κs a z z′ e e′ h h′ =
 
 pub advance-once :
     (κs : Lfts 8) (a : _) (z z′ : _) (e e′ : _) → advance.Post κs a z e → advance.Post κs a z′ e′
-    → now (e .1 .1 .1 .1 .1 .1 .1 .1 .0) ≡ now (e′ .1 .1 .1 .1 .1 .1 .1 .1 .0)
+    → now (e .1 .1 .1 .1 .1 .1 .1 .1 .1 .0) ≡ now (e′ .1 .1 .1 .1 .1 .1 .1 .1 .1 .0)
 advance-once κs a z z′ e e′ h h′ =
-    let n : ℕ = a .1 .0 in
+    let n : ℕ = a .1 .1 .0 in
     written-once n _ _ _ (h .1) (h′ .1)
     (λ k l.
-    sym (getD-take n (now (e .1 .1 .1 .1 .1 .1 .1 .1 .0)) k 0 l)
+    sym (getD-take n (now (e .1 .1 .1 .1 .1 .1 .1 .1 .1 .0)) k 0 l)
     ∙ ap (λ (x : List ℕ). getD x k 0) (one-answer (h .0) (h′ .0))
-    ∙ getD-take n (now (e′ .1 .1 .1 .1 .1 .1 .1 .1 .0)) k 0 l)
+    ∙ getD-take n (now (e′ .1 .1 .1 .1 .1 .1 .1 .1 .1 .0)) k 0 l)

@@ -14,9 +14,10 @@ use moves::next_state;
 use reading::word_at;
 use rules::pick_of;
 
-// One step from `old` into `new` under picks, a rank for each plan: plans move in table order. The step, the run and the checker all go
-// through this one loop, the only caller of a move, which is then compiled into it.
+// One step from `old` into `new` by a rule and under picks, a rank for each plan: plans move in table order. The step, the run and the
+// checker all go through this one loop, the only caller of a move, which is then compiled into it.
 pub fn advance(
+    rule: u32,
     table: &[u8],
     n: usize,
     ranks: &[u8],
@@ -31,11 +32,11 @@ pub fn advance(
     requires names { ⌜ Names (now table) (now names) ⌝ }
     requires room { ⌜ (n ≡ planCount (now table)) × (n ≤ length (now new)) × (4 * n ≤ length (now words)) ⌝ }
     ensures moved { λ _. ⌜ take n (now (new .exit))
-        ≡ stepUnder (now (table .entry)) (now (old .entry)) (now (words .entry)) (picksOf (now (picks .entry))) ⌝ }
+        ≡ stepUnder rule (now (table .entry)) (now (old .entry)) (now (words .entry)) (picksOf (now (picks .entry))) ⌝ }
     ensures rest { λ _. ⌜ Beyond n (now (new .entry)) (now (new .exit)) ⌝ }
 {
     for p in 0..n {
-        new[p] = next_state(table, ranks, names, sets, picks, old, words, new, p).to_byte();
+        new[p] = next_state(rule, table, ranks, names, sets, picks, old, words, new, p).to_byte();
     }
 }
 

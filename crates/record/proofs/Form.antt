@@ -1,4 +1,4 @@
--- Laws of checks 13 and 14, and of a record that passes them. Assumes nothing.
+-- Laws of the checks before a record's steps, and of a record that passes them. Assumes nothing.
 use Prim.Native.Nat.{ℕ, _*_, _-_, _/_, _%_, _≤_, _<_}
 use native.Mathlib.Omega.{arith}
 use native.Mathlib.Nat.{div-mul-le-self}
@@ -12,7 +12,7 @@ use Rattle.rules.specs.Lists.{same}
 use Rattle.rules.specs.Bytes.{byteAt}
 use Rattle.rules.specs.Table.{version, planCount}
 use Rattle.rules.specs.Record.{stepSize, stepCount}
-use Rattle.rules.specs.Answers.{wrongHeader, tableCheck, recordCheck, Judged, malformed}
+use Rattle.rules.specs.Answers.{ruleCheck, wrongHeader, tableCheck, formCheck, recordCheck, Judged, malformed}
 use Rattle.rules.specs.declared.Refusal.{Refusal}
 use Rattle.rules.specs.declared.Refusal.the-variants.{RecordHeader, RecordLength}
 use Rattle.rules.specs.declared.Outcome.the-variants.{Done, Refused}
@@ -36,38 +36,53 @@ long-header t r n v k marked whole l is-marked is-version is-count =
 pub long-enough : (t r : List ℕ) → wrongHeader t r ≡ false → 8 ≤ length r
 long-enough t r e = ltb-false (length r) 8 (or-left _ _ (or-left _ _ (or-left _ _ (or-left _ _ e))))
 
-pub table-refused : (t r : List ℕ) (why : Refusal) → tableCheck t ≡ Refused why → Judged t r (verdict.Refused why)
+pub rule-refused :
+    (rule : ℕ) (t r : List ℕ) (why : Refusal) → ruleCheck rule ≡ Refused why → Judged rule t r (verdict.Refused why)
 unfolding recordCheck
-table-refused t r why e = malformed (then-stops (tableCheck t) _ why e)
+rule-refused rule t r why e = malformed (then-stops (ruleCheck rule) _ why e)
 
-module _ (t r : List ℕ) (done : tableCheck t ≡ Done) where
-  pub header-refused : wrongHeader t r ≡ true → Judged t r (verdict.Refused RecordHeader)
+pub table-refused :
+    (rule : ℕ) (t r : List ℕ) (why : Refusal) → ruleCheck rule ≡ Done → tableCheck t ≡ Refused why → Judged rule t r (verdict.Refused why)
+unfolding recordCheck
+table-refused rule t r why ruled e = malformed (then-next (ruleCheck rule) _ ruled ∙ then-stops (tableCheck t) _ why e)
+
+module _ (rule : ℕ) (t r : List ℕ) (ruled : ruleCheck rule ≡ Done) (done : tableCheck t ≡ Done) where
+  up-to-form : recordCheck rule t r ≡ formCheck t r
   unfolding recordCheck
-  header-refused e = malformed (then-next (tableCheck t) _ done ∙ stop _ _ _ e)
+  up-to-form = then-next (ruleCheck rule) _ ruled ∙ then-next (tableCheck t) _ done
+
+  pub header-refused : wrongHeader t r ≡ true → Judged rule t r (verdict.Refused RecordHeader)
+  unfolding formCheck
+  header-refused e = malformed (up-to-form ∙ stop _ _ _ e)
 
   -- check 14, as the code finds it
   module _ (n : ℕ) (whole : n ≡ planCount t) (header : wrongHeader t r ≡ false) where
     pub length-refused :
         (not (eqb ((length r - 8) % (5 * n)) 0) || ltb 65535 ((length r - 8) / (5 * n))) ≡ true
-        → Judged t r (verdict.Refused RecordLength)
-    unfolding recordCheck
-    length-refused e = malformed (then-next (tableCheck t) _ done ∙ pass _ _ _ header ∙ stop-last _ _ (rw whole at e))
+        → Judged rule t r (verdict.Refused RecordLength)
+    unfolding formCheck
+    length-refused e = malformed (up-to-form ∙ pass _ _ _ header ∙ stop-last _ _ (rw whole at e))
 
     pub form-passes :
-        (not (eqb ((length r - 8) % (5 * n)) 0) || ltb 65535 ((length r - 8) / (5 * n))) ≡ false → recordCheck t r ≡ Done
-    unfolding recordCheck
-    form-passes e = then-next (tableCheck t) _ done ∙ pass _ _ _ header ∙ pass-last _ _ (rw whole at e)
+        (not (eqb ((length r - 8) % (5 * n)) 0) || ltb 65535 ((length r - 8) / (5 * n))) ≡ false
+        → recordCheck rule t r ≡ Done
+    unfolding formCheck
+    form-passes e = up-to-form ∙ pass _ _ _ header ∙ pass-last _ _ (rw whole at e)
 
 -- A record that passes: a whole number of steps, at most 65,535 of them.
-module _ (t r : List ℕ) (done : recordCheck t r ≡ Done) where
-  checks : wrongHeader t r ≡ false
+module _ (rule : ℕ) (t r : List ℕ) (done : recordCheck rule t r ≡ Done) where
+  form : formCheck t r ≡ Done
   unfolding recordCheck
-  checks = if-done _ _ (first-done _ _ (then-done (tableCheck t) _ done))
+  form = then-done (tableCheck t) _ (then-done (ruleCheck rule) _ done)
+
+  checks : wrongHeader t r ≡ false
+  unfolding formCheck
+  checks = if-done _ _ (first-done _ _ form)
 
   pub few : stepCount t r ≤ 65535
-  unfolding recordCheck
+  unfolding formCheck
   few =
-      let whole = if-done _ _ (then-done _ _ (then-done (tableCheck t) _ done)) in
+      let whole = if-done _ _ (then-done _ _ form) in
       ltb-false 65535 (stepCount t r) (or-right (not (eqb ((length r - 8) % stepSize t r) 0)) _ whole)
 
   pub lies : (n steps i : ℕ) → n ≡ planCount t → steps ≡ stepCount t r → i < steps → Lies r n i

@@ -45,9 +45,9 @@ idle-part (suc k) zero a l = absurd (omega arith)
 idle-part (suc k) (suc m) a l = ap (λ (z : List ℕ). a ∷ z) (idle-part k m a (omega arith))
 
 -- before the first step: the states, and that its plans may be surveyed, whatever words they get
-module _ {t r ranks names : List ℕ} (sound : Sound t r ranks names) {n : ℕ} (whole : n ≡ planCount t) where
+module _ {rule : ℕ} {t r ranks names : List ℕ} (sound : Sound rule t r ranks names) {n : ℕ} (whole : n ≡ planCount t) where
   pub idle-few : n ≤ 256
-  idle-few = omega (arith, tree t (passes t (table-done t r (sound .done))) .small)
+  idle-few = omega (arith, tree t (passes t (table-done rule t r (sound .done))) .small)
 
   idle-states : take n (replicate 256 (code Inactive)) ≡ statesBefore t r 0
   idle-states = idle-part n 256 (code Inactive) idle-few ∙ ap (λ (k : ℕ). replicate k (code Inactive)) whole
@@ -56,7 +56,7 @@ module _ {t r ranks names : List ℕ} (sound : Sound t r ranks names) {n : ℕ} 
   idle-moves =
       record {
         prepared = sound .prepared;
-        passes = rw idle-states (before-passes t r (table-done t r (sound .done)) 0 (λ j l. absurd (omega arith)));
+        passes = rw idle-states (before-passes rule t r (table-done rule t r (sound .done)) 0 (λ j l. absurd (omega arith)));
         words = length-replicate (4 * planCount t) 0;
       }
 
@@ -84,32 +84,32 @@ part-long : (r : List ℕ) (from long : ℕ) → from + long ≤ length r → le
 part-long r from long l = length-take-le long (drop from r) (omega (arith, length-drop from r))
 
 -- The search stands at step i, and the steps before it pass.
-pub record Here (t r ranks names : List ℕ) (n steps i : ℕ) : Type 0 where
-  pub sound : Sound t r ranks names
+pub record Here (rule : ℕ) (t r ranks names : List ℕ) (n steps i : ℕ) : Type 0 where
+  pub sound : Sound rule t r ranks names
   pub whole : n ≡ planCount t
   pub count : steps ≡ stepCount t r
   pub inside : i < steps
-  pub before : (j : ℕ) → j < i → StepPasses t r j
+  pub before : (j : ℕ) → j < i → StepPasses rule t r j
 
-module _ {t r ranks names : List ℕ} {n steps i : ℕ} (here : Here t r ranks names n steps i) where
-  abbrev good : recordCheck t r ≡ Done
+module _ {rule : ℕ} {t r ranks names : List ℕ} {n steps i : ℕ} (here : Here rule t r ranks names n steps i) where
+  abbrev good : recordCheck rule t r ≡ Done
   good = here .sound .done
 
   done : tableCheck t ≡ Done
-  done = table-done t r good
+  done = table-done rule t r good
 
   inner : i < stepCount t r
   inner = rw (here .count) at (here .inside)
 
   -- where it lies
   pub there : Lies r n i
-  there = lies t r good n steps i (here .whole) (here .count) (here .inside)
+  there = lies rule t r good n steps i (here .whole) (here .count) (here .inside)
 
   pub few-plans : n ≤ 256
   few-plans = omega (arith, here .whole, tree t (passes t done) .small)
 
   pub step-fits : i + 1 < 65536
-  step-fits = omega (arith, few t r good, inner)
+  step-fits = omega (arith, few rule t r good, inner)
 
   pub words-long : (words : List ℕ) → words ≡ wordsOf t r i → length words ≡ 4 * n
   words-long words e = rw (e, ← here .whole) (part-long r (8 + i * (5 * n)) (4 * n) (omega (arith, there)))
@@ -122,7 +122,7 @@ module _ {t r ranks names : List ℕ} {n steps i : ℕ} (here : Here t r ranks n
   may-move old words is-old is-words =
       record {
         prepared = here .sound .prepared;
-        passes = rw is-old (before-passes t r done i (here .before));
+        passes = rw is-old (before-passes rule t r done i (here .before));
         words = rw (← here .whole) (words-long words is-words);
       }
 
@@ -133,12 +133,12 @@ module _ {t r ranks names : List ℕ} {n steps i : ℕ} (here : Here t r ranks n
 
   -- and, once they have moved to the states shown, from these
   pub shown-moves :
-      (words shown : List ℕ) → words ≡ wordsOf t r i → shown ≡ statesOf t r i → ((j : ℕ) → j < i + 1 → StepPasses t r j)
+      (words shown : List ℕ) → words ≡ wordsOf t r i → shown ≡ statesOf t r i → ((j : ℕ) → j < i + 1 → StepPasses rule t r j)
       → MayMove t shown words ranks names
   shown-moves words shown is-words is-shown before-next =
       record {
         prepared = here .sound .prepared;
-        passes = rw is-shown (before-passes t r done (suc i) (λ j l. before-next j (omega arith)));
+        passes = rw is-shown (before-passes rule t r done (suc i) (λ j l. before-next j (omega arith)));
         words = rw (← here .whole) (words-long words is-words);
       }
 
@@ -152,7 +152,7 @@ module _ {t r ranks names : List ℕ} {n steps i : ℕ} (here : Here t r ranks n
     lowest-word : Lowest (badRecordWord t (wordsOf t r i)) n p
     lowest-word = rw is-words at lowest
 
-    pub stops-at-word : p < n → Judged t r (verdict.Refused (Word (i + 1) p))
+    pub stops-at-word : p < n → Judged rule t r (verdict.Refused (Word (i + 1) p))
     unfolding wordsCheck
     stops-at-word l =
         rw (add-one i)
@@ -175,42 +175,42 @@ module _ {t r ranks names : List ℕ} {n steps i : ℕ} (here : Here t r ranks n
       (is-words : words ≡ wordsOf t r i)
       (is-shown : shown ≡ statesOf t r i)
       (witnessed : Witnessed t old shown picks)
-      (moved : take n new ≡ stepUnder t old words (picksOf picks))
+      (moved : take n new ≡ stepUnder rule t old words (picksOf picks))
     where
-      byte-moved : (p : ℕ) → p < n → byteAt new p ≡ byteAt (stepUnder t old words (witness t old shown)) p
+      byte-moved : (p : ℕ) → p < n → byteAt new p ≡ byteAt (stepUnder rule t old words (witness t old shown)) p
       byte-moved p l =
           sym (getD-take n new p 0 l)
           ∙ ap (λ (x : List ℕ). byteAt x p)
-          (moved ∙ same-picks t old words (tree t (passes t done)) (picksOf picks) (witness t old shown) (witnessed .pick))
+          (moved ∙ same-picks rule t old words (tree t (passes t done)) (picksOf picks) (witness t old shown) (witnessed .pick))
 
       -- the plans passed show the same bytes: some picks explain them
-      pub explained : (p : ℕ) → p ≤ n → ((k : ℕ) → k < p → byteAt new k ≡ byteAt shown k) → ExplainedFirst t r i p
+      pub explained : (p : ℕ) → p ≤ n → ((k : ℕ) → k < p → byteAt new k ≡ byteAt shown k) → ExplainedFirst rule t r i p
       explained p l same =
           rw (← is-old, ← is-words, ← is-shown)
-          (explained-so-far t old words shown done p (omega (arith, here .whole)) (omega (arith, shown-long shown is-shown))
+          (explained-so-far rule t old words shown done p (omega (arith, here .whole)) (omega (arith, shown-long shown is-shown))
           (λ k lk. sym (byte-moved k (omega arith)) ∙ same k lk))
 
       -- plan p shows another byte
       pub stops-at-plan :
           (p : ℕ) → p < n → ((k : ℕ) → k < p → byteAt new k ≡ byteAt shown k) → (byteAt new p ≡ byteAt shown p → ⊥)
           → wordsCheck t r i ≡ Done
-          → Judged t r (verdict.Refused (Unexplained (i + 1) p))
+          → Judged rule t r (verdict.Refused (Unexplained (i + 1) p))
       stops-at-plan p l same differs words-done =
           rw (add-one i)
           (unexplained i p good inner (here .before) words-done (omega (arith, here .whole))
-          (λ j lj. explained-fewer t _ _ _ (suc j) p lj (explained p (omega arith) same))
+          (λ j lj. explained-fewer rule t _ _ _ (suc j) p lj (explained p (omega arith) same))
           (rw (← is-old, ← is-words, ← is-shown)
-          (no-picks t old words shown done p (omega (arith, here .whole)) (λ e. differs (byte-moved p l ∙ e)))))
+          (no-picks rule t old words shown done p (omega (arith, here .whole)) (λ e. differs (byte-moved p l ∙ e)))))
 
   -- all plans are explained: the step passes
-  pub one-more : (p : ℕ) → p ≡ n → wordsCheck t r i ≡ Done → ExplainedFirst t r i p → (j : ℕ) → j < i + 1 → StepPasses t r j
+  pub one-more : (p : ℕ) → p ≡ n → wordsCheck t r i ≡ Done → ExplainedFirst rule t r i p → (j : ℕ) → j < i + 1 → StepPasses rule t r j
   one-more p end words-done explained j l = go (last-or j i (omega arith))
     where
-      go : (j ≡ i) ⊎ (j < i) → StepPasses t r j
+      go : (j ≡ i) ⊎ (j < i) → StepPasses rule t r j
       go (inl e) = rw e (record { words = words-done; states = rw (end ∙ here .whole) at explained })
       go (inr h) = here .before j h
 
 pub all-steps :
-    (t r : List ℕ) (steps i : ℕ) → recordCheck t r ≡ Done → steps ≡ stepCount t r → steps ≤ i
-    → ((j : ℕ) → j < i → StepPasses t r j) → Judged t r (verdict.Accepted steps)
-all-steps t r steps i done count end before = rw count (accepted done (λ j l. before j (omega arith)))
+    (rule : ℕ) (t r : List ℕ) (steps i : ℕ) → recordCheck rule t r ≡ Done → steps ≡ stepCount t r → steps ≤ i
+    → ((j : ℕ) → j < i → StepPasses rule t r j) → Judged rule t r (verdict.Accepted steps)
+all-steps rule t r steps i done count end before = rw count (accepted done (λ j l. before j (omega arith)))

@@ -6,7 +6,7 @@ use Rattle.rules.specs.Answers.{recordCheck}
 use Rattle.rules.specs.declared.Outcome.the-variants.{Done}
 use Rattle.table.specs.Facts.{Prepared}
 
--- a table that passes, its facts, and a record of good form
-pub record Sound (t r ranks names : List ℕ) : Type 0 where
-  pub done : recordCheck t r ≡ Done
+-- a rule, a table that passes, its facts, and a record of good form
+pub record Sound (rule : ℕ) (t r ranks names : List ℕ) : Type 0 where
+  pub done : recordCheck rule t r ≡ Done
   pub prepared : Prepared t ranks names

@@ -1,11 +1,12 @@
-// Checks a treatment record: 1 to 9 of its table, 13, 14, then step by step 12 before 15 of document 01.
+// Checks a treatment record by a rule: 17, 1 to 9 of its table, 13, 14, then step by step 12 before 15 of documents 01 and 02.
 // A step costs O(n) for n plans; nothing is allocated or copied. Assumes nothing.
 ghost use mathlib.Core.Path.{_≡_};
 ghost use mathlib.Core.List.{List};
 ghost use Prim.Native.Nat.{ℕ};
 ghost use Rattle.rules.specs.Table.{planCount};
 ghost use Rattle.rules.specs.Record.{stepCount};
-ghost use Rattle.rules.specs.Answers.{wrongHeader, Judged};
+ghost use Rattle.rules.specs.Answers.{ruleCheck, wrongHeader, Judged};
+ghost use Rattle.rules.specs.declared.Outcome.the-variants.{Done};
 ghost use Rattle.table.specs.Facts.{Prepared};
 ghost use Rattle.record.specs.Sound.{Sound};
 use children::resurvey;
@@ -22,25 +23,31 @@ use rules::Outcome;
 use rules::PlanState;
 use rules::Refusal;
 use rules::Verdict;
+use rules::is_rule;
 use table::has_mark;
 use table::read_table;
 
-// Whether a record can come from the rules under a table: accepted with its number of steps, or refused at the first place.
-pub fn check(table: &[u8], record: &[u8]) -> Verdict
-    ensures { λ r. ⌜ Judged (now (table .entry)) (now («record» .entry)) r ⌝ }
+// Whether a record can come from the rules under a table, by the rule named: accepted with its number of steps, or refused at the first
+// place.
+pub fn check(rule: u32, table: &[u8], record: &[u8]) -> Verdict
+    ensures { λ r. ⌜ Judged rule (now (table .entry)) (now («record» .entry)) r ⌝ }
 {
+    if !is_rule(rule) {
+        return Verdict::Refused(Refusal::RuleNumber);
+    }
     let mut ranks = [0u8; 256];
     let mut counts = [0u8; 256];
     let mut names = [0u64; 256];
     match read_table(table, &mut ranks, &mut counts, &mut names) {
         Outcome::Refused(why) => Verdict::Refused(why),
-        Outcome::Done => check_record(table, &ranks, &names, record),
+        Outcome::Done => check_record(rule, table, &ranks, &names, record),
     }
 }
 
 // The steps of a record of good form, one after the other, and in each its plans: the first step with a wrong word or with a plan that
 // no picks explain together with the plans before it.
 fn check_steps(
+    rule: u32,
     table: &[u8],
     n: usize,
     ranks: &[u8],
@@ -48,9 +55,9 @@ fn check_steps(
     record: &[u8],
     steps: usize,
 ) -> Verdict
-    requires sound { ⌜ Sound (now table) (now «record») (now ranks) (now names) ⌝ }
+    requires sound { ⌜ Sound rule (now table) (now «record») (now ranks) (now names) ⌝ }
     requires sizes { ⌜ (n ≡ planCount (now table)) × (steps ≡ stepCount (now table) (now «record»)) ⌝ }
-    ensures { λ r. ⌜ Judged (now (table .entry)) (now («record» .entry)) r ⌝ }
+    ensures { λ r. ⌜ Judged rule (now (table .entry)) (now («record» .entry)) r ⌝ }
 {
     let idle = [PlanState::INACTIVE; 256];
     let mut sets = [0u64; 2304];
@@ -69,7 +76,18 @@ fn check_steps(
         let old = states_before(&idle, record, n, i);
         let shown = states_of(record, n, i);
         find_picks(table, n, ranks, old, shown, &mut picks, &mut kept);
-        advance(table, n, ranks, names, &sets, &picks, old, words, &mut new);
+        advance(
+            rule,
+            table,
+            n,
+            ranks,
+            names,
+            &sets,
+            &picks,
+            old,
+            words,
+            &mut new,
+        );
         // 12 comes before 15: no plan is compared in a step with a wrong word
         let mut p = 0;
         while (wrong == n) & (p < n) {
@@ -109,10 +127,11 @@ fn wrong_header(record: &[u8], n: usize) -> bool
     !has_mark(record, b'R') | (version != 1) | (plans != n) | (record[7] != 0)
 }
 
-// Checks 13 and 14 of a record, and then its steps, where its table passes.
-fn check_record(table: &[u8], ranks: &[u8], names: &[u64], record: &[u8]) -> Verdict
-    requires { ⌜ Prepared (now table) (now ranks) (now names) ⌝ }
-    ensures { λ r. ⌜ Judged (now (table .entry)) (now («record» .entry)) r ⌝ }
+// Checks 13 and 14 of a record, and then its steps, where rule number and table have passed.
+fn check_record(rule: u32, table: &[u8], ranks: &[u8], names: &[u64], record: &[u8]) -> Verdict
+    requires ruled { ⌜ ruleCheck rule ≡ Done ⌝ }
+    requires table { ⌜ Prepared (now table) (now ranks) (now names) ⌝ }
+    ensures { λ r. ⌜ Judged rule (now (table .entry)) (now («record» .entry)) r ⌝ }
 {
     let n = u16_at(table, 5) as usize;
     if wrong_header(record, n) {
@@ -124,5 +143,5 @@ fn check_record(table: &[u8], ranks: &[u8], names: &[u64], record: &[u8]) -> Ver
     if (body % size != 0) | (65535 < steps) {
         return Verdict::Refused(Refusal::RecordLength);
     }
-    check_steps(table, n, ranks, names, record, steps)
+    check_steps(rule, table, n, ranks, names, record, steps)
 }

@@ -1,21 +1,26 @@
 -- What demand 3's last rules rule out: for each of them states, or states before and after a step, that break it, proved to break it,
 -- under a sequential plan (body 1), an any-order one (3), on abort (5) and of if-then-else (8). And picks that words may not hold explain
--- nothing. So that none of these definitions can lose a part unseen. Assumes nothing.
+-- nothing, and there are two rules and no third. So that none of these definitions can lose a part unseen. Assumes nothing.
 use Prim.Native.Nat.{ℕ, zero, suc, _<_}
 use native.Mathlib.Omega.{arith}
-use mathlib.Core.Bool.{false, true≢false}
+use mathlib.Core.Bool.{false, not, true≢false, _||_}
 use mathlib.Core.Path.{_≡_, refl, sym, ap, _∙_}
 use mathlib.Core.Logic.{⊎-elim}
 use mathlib.Core.List.{List}
 use lib.Dec.{T, eqb}
-use borrow.Author.Tests.{eq-eqb}
+use borrow.Author.Tests.{eq-eqb, ne-eqb}
 use Rattle.rules.specs.States.{code, stateAt, ended}
 use Rattle.rules.specs.declared.PlanState.{PlanState}
 use Rattle.rules.specs.declared.PlanState.the-variants.{Considered, Aborted}
 use Rattle.rules.specs.Table.{isOrIsAbove, childrenBefore, children}
 use Rattle.rules.specs.Record.{Explained}
 use Rattle.rules.specs.Demands.{SubPlan, Retried, AtMostOne, OnlyWhileParent, EndingsKept}
+use Rattle.rules.specs.Answers.{ruleCheck, callCheck, recordCheck, Judged, malformed}
 use Rattle.rules.specs.Cases.{T1Of, states}
+use Rattle.rules.specs.declared.Refusal.the-variants.{RuleNumber}
+use Rattle.rules.specs.declared.Outcome.the-variants.{Refused}
+use Rattle.rules.specs.declared.Verdict.the-variants as verdict
+use Rattle.rules.proofs.Outcomes.{stop-last, then-stops}
 
 -- a root with two leaves
 abbrev pair : ℕ → List ℕ
@@ -111,10 +116,24 @@ module _ (body : ℕ) where
       (λ r. differ (r .was) refl)
 
 -- Picks that words may not hold: another rank than a child's under an any-order plan, any but 0 under a sequential one.
-pub no-such-child : (s w shown : List ℕ) (k : ℕ) (e : Explained (pair 3) s w shown k) → e .pick 0 ≡ 2 → ⊥
+pub no-such-child : (rule : ℕ) (s w shown : List ℕ) (k : ℕ) (e : Explained rule (pair 3) s w shown k) → e .pick 0 ≡ 2 → ⊥
 unfolding T1Of childrenBefore children
-no-such-child s w shown k e wild = rw wild at (e .allowed 0 (omega arith))
+no-such-child rule s w shown k e wild = rw wild at (e .allowed 0 (omega arith))
 
-pub no-pick-to-make : (s w shown : List ℕ) (k : ℕ) (e : Explained (pair 1) s w shown k) → e .pick 0 ≡ 1 → ⊥
+pub no-pick-to-make : (rule : ℕ) (s w shown : List ℕ) (k : ℕ) (e : Explained rule (pair 1) s w shown k) → e .pick 0 ≡ 1 → ⊥
 unfolding T1Of childrenBefore children
-no-pick-to-make s w shown k e wild = rw wild at (e .allowed 0 (omega arith))
+no-pick-to-make rule s w shown k e wild = rw wild at (e .allowed 0 (omega arith))
+
+-- Numbers other than 1 and 2 are no rule: each call is refused for that, whatever else it is handed.
+module _ (rule : ℕ) (not-1 : rule ≡ 1 → ⊥) (not-2 : rule ≡ 2 → ⊥) where
+  no-rule : ruleCheck rule ≡ Refused RuleNumber
+  unfolding ruleCheck
+  no-rule = stop-last (not (eqb rule 1 || eqb rule 2)) RuleNumber (rw (ne-eqb rule 1 not-1, ne-eqb rule 2 not-2) refl)
+
+  pub no-call-without-a-rule : (t s w : List ℕ) → callCheck rule t s w ≡ Refused RuleNumber
+  unfolding callCheck
+  no-call-without-a-rule t s w = then-stops (ruleCheck rule) _ RuleNumber no-rule
+
+  pub no-check-without-a-rule : (t r : List ℕ) → Judged rule t r (verdict.Refused RuleNumber)
+  unfolding recordCheck
+  no-check-without-a-rule t r = malformed (then-stops (ruleCheck rule) _ RuleNumber no-rule)

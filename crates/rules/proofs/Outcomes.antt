@@ -1,11 +1,12 @@
 -- Laws of outcomes: what a chain of checks that ends in Done tells of each, and how a chain is gone through. Assumes nothing.
 use Prim.Native.Nat.{ℕ}
 use native.Mathlib.Omega.{arith}
-use mathlib.Core.Path.{_≡_, refl}
-use mathlib.Core.Bool.{Bool, true, false}
+use mathlib.Core.Path.{_≡_, refl, sym, ap, _∙_}
+use mathlib.Core.Bool.{Bool, true, false, not}
 use Rattle.rules.specs.Lists.{Found, Nowhere, At}
-use Rattle.rules.specs.Answers.{_andThen_, refuseIf, refuseAt}
+use Rattle.rules.specs.Answers.{_andThen_, refuseIf, refuseAt, isRule, ruleCheck}
 use Rattle.rules.specs.declared.Refusal.{Refusal}
+use Rattle.rules.specs.declared.Refusal.the-variants.{RuleNumber}
 use Rattle.rules.specs.declared.Outcome.{Outcome}
 use Rattle.rules.specs.declared.Outcome.the-variants.{Done, Refused}
 
@@ -74,3 +75,13 @@ then-next a next e = rw e
 pub then-stops : (a next : Outcome) (why : Refusal) → a ≡ Refused why → (a andThen next) ≡ Refused why
 unfolding _andThen_
 then-stops a next why e = rw e
+
+-- check 17, from what the code has in hand
+module _ (rule : ℕ) {known : Bool} (e : known ≡ isRule rule) where
+  pub rule-stops : not known ≡ true → ruleCheck rule ≡ Refused RuleNumber
+  unfolding ruleCheck
+  rule-stops h = stop-last (not (isRule rule)) RuleNumber (ap not (sym e) ∙ h)
+
+  pub rule-passes : not known ≡ false → ruleCheck rule ≡ Done
+  unfolding ruleCheck
+  rule-passes h = pass-last (not (isRule rule)) RuleNumber (ap not (sym e) ∙ h)

@@ -21,6 +21,7 @@ use Rattle.rules.proofs.PlanEntry.waits_for_optional.Reads as waits-for
 use Rattle.rules.proofs.PlanEntry.is_named.Reads as is-named
 use Rattle.rules.proofs.PlanEntry.wait_for.Reads as wait-for
 use Rattle.rules.proofs.Refusal.place.Reads as placed
+use Rattle.rules.proofs.is_rule.Reads as is-rule
 use Rattle.rules.proofs.pick_of.Reads as pick-of
 
 -- two answers that equal one thing are equal
@@ -61,9 +62,9 @@ pub entries-once :
     × OneAnswer wait-for.Post
 entries-once = (by-equation, by-equation, by-equation, by-equation, by-equation, by-equation, by-equation)
 
--- and that of a refusal
-pub place-once : OneAnswer placed.Post
-place-once = by-equation
+-- and those of a refusal and of a rule number
+pub place-once : OneAnswer placed.Post × OneAnswer is-rule.Post
+place-once = (by-equation, by-equation)
 
 -- the same of a function that is lent something to write: its answers are one, and so is what it leaves there
 abbrev pub OneAnswerLeaving : {K A Z E L : Type 0} → (K → A → Z → E → Type 0) → (E → L) → Type 0

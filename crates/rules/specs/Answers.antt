@@ -1,5 +1,5 @@
--- Document 01, 'Answer numbers', as document 02 (i) widens them: the number and place of each refusal, the test behind each, their order in
--- each call, and what each call answers and leaves. Assumes nothing.
+-- Document 01, 'Answer numbers', as document 02 (i) and (ii) widen them: the number and place of each refusal, the test behind each, their
+-- order in each call, and what each call answers and leaves. Assumes nothing.
 use Prim.Native.Nat.{ℕ, zero, suc, _+_, _*_, _-_, _%_, _^_, _<_}
 use mathlib.Core.Bool.{Bool, true, false, cond, not, _&&_, _||_, Bool·beq}
 use mathlib.Core.Path.{_≡_}
@@ -52,6 +52,7 @@ use Rattle.rules.specs.declared.Refusal.the-variants.{
   RecordLength,
   Unexplained,
   InputLong,
+  RuleNumber,
 }
 use Rattle.rules.specs.declared.Outcome.{Outcome}
 use Rattle.rules.specs.declared.Outcome.the-variants.{Done, Refused}
@@ -81,6 +82,7 @@ place RecordHeader = placed 13 0 0
 place RecordLength = placed 14 0 0
 place (Unexplained i p) = placed 15 i p
 place InputLong = placed 16 0 0
+place RuleNumber = placed 17 0 0
 
 -- one check, and if it finds nothing the next
 infixr 10 _andThen_
@@ -100,6 +102,14 @@ refuseIf b why = cond b (Refused why) Done
 unfoldable pub refuseAt : (ℕ → Refusal) → Found → Outcome
 refuseAt why Nowhere = Done
 refuseAt why (At p) = Refused (why p)
+
+-- rules are 1, document 01's own, and 2
+abbrev pub isRule : ℕ → Bool
+isRule rule = eqb rule 1 || eqb rule 2
+
+-- 17: another rule number
+unfoldable pub ruleCheck : ℕ → Outcome
+ruleCheck rule = refuseIf (not (isRule rule)) RuleNumber
 
 -- 2, and a part of 13: the first three bytes are another mark
 abbrev pub wrongMark : List ℕ → List ℕ → Bool
@@ -219,32 +229,34 @@ module _ (t : List ℕ) where
       andThen refuseAt State (least (badState t s) (planCount t))
       andThen refuseAt (Word 0) (least (badWord w) (planCount t))
 
-  -- A call of the step or the run: 1 to 9, then 10 to 12.
+-- what the run answers
+abbrev pub restAnswer : Found → Rest
+restAnswer (At k) = rest.Rested k
+restAnswer Nowhere = rest.Moving
+
+-- A call of the step or the run by a rule: 17, then 1 to 9, then 10 to 12.
+module _ (rule : ℕ) (t : List ℕ) where
   unfoldable pub callCheck : List ℕ → List ℕ → Outcome
-  unfolding tableCheck lentCheck
-  callCheck s w = tableCheck andThen lentCheck s w
+  unfolding ruleCheck tableCheck lentCheck
+  callCheck s w = ruleCheck rule andThen tableCheck t andThen lentCheck t s w
 
   -- what the step answers, and the states that it leaves: no refusal changes lent bytes
   abbrev pub stepAnswer : List ℕ → List ℕ → Outcome
   stepAnswer s w = callCheck s w
 
   abbrev pub stepStates : List ℕ → List ℕ → List ℕ
-  stepStates s w = elim (callCheck s w) [ Done ↦ step t s w | Refused why ↦ s ]
+  stepStates s w = elim (callCheck s w) [ Done ↦ step rule t s w | Refused why ↦ s ]
 
   -- what the run answers, and the states that it leaves
-  abbrev pub restAnswer : Found → Rest
-  restAnswer (At k) = rest.Rested k
-  restAnswer Nowhere = rest.Moving
-
   unfoldable pub runAnswer : List ℕ → List ℕ → ℕ → Rest
   unfolding callCheck leastRest
-  runAnswer s w budget = elim (callCheck s w) [ Done ↦ restAnswer (leastRest t s w budget) | Refused why ↦ rest.Refused why ]
+  runAnswer s w budget = elim (callCheck s w) [ Done ↦ restAnswer (leastRest rule t s w budget) | Refused why ↦ rest.Refused why ]
 
   unfoldable pub runStates : List ℕ → List ℕ → ℕ → List ℕ
   unfolding callCheck leastRest
-  runStates s w budget = elim (callCheck s w) [ Done ↦ statesAt t s w budget (leastRest t s w budget) | Refused why ↦ s ]
+  runStates s w budget = elim (callCheck s w) [ Done ↦ statesAt rule t s w budget (leastRest rule t s w budget) | Refused why ↦ s ]
 
--- The checker: 1 to 9, 13, 14, then step by step 12 before 15.
+-- The checker's own checks.
 module _ (t r : List ℕ) where
   -- 13: under 8 bytes, another mark, version or n, or byte 7 not 0
   abbrev pub wrongHeader : Bool
@@ -255,11 +267,10 @@ module _ (t r : List ℕ) where
       || not (eqb (planCount r) (planCount t))
       || not (eqb (byteAt r 7) 0)
 
-  unfoldable pub recordCheck : Outcome
-  unfolding tableCheck
-  recordCheck =
-      tableCheck t
-      andThen refuseIf wrongHeader RecordHeader
+  -- 13 and 14
+  unfoldable pub formCheck : Outcome
+  formCheck =
+      refuseIf wrongHeader RecordHeader
       andThen refuseIf (not (eqb ((length r - 8) % stepSize t r) 0) || ltb 65535 (stepCount t r)) RecordLength
 
   -- 12 in step i
@@ -267,21 +278,27 @@ module _ (t r : List ℕ) where
   unfolding badRecordWord
   wordsCheck i = refuseAt (Word (suc i)) (least (badRecordWord t (wordsOf t r i)) (planCount t))
 
+-- The checker by a rule: 17, 1 to 9, 13, 14, then step by step 12 before 15.
+module _ (rule : ℕ) (t r : List ℕ) where
+  unfoldable pub recordCheck : Outcome
+  unfolding ruleCheck tableCheck formCheck
+  recordCheck = ruleCheck rule andThen tableCheck t andThen formCheck t r
+
   -- step i passes: its words do, and some picks explain all its states
   pub record StepPasses (i : ℕ) : Type 0 where
-    pub words : wordsCheck i ≡ Done
-    pub states : ExplainedFirst t r i (planCount t)
+    pub words : wordsCheck t r i ≡ Done
+    pub states : ExplainedFirst rule t r i (planCount t)
 
   -- the verdicts that are permitted
   pub data Judged : Verdict → Type 0 where
     malformed : {why : Refusal} → recordCheck ≡ Refused why → Judged (verdict.Refused why)
     badWords :
         {why : Refusal} (i : ℕ) → recordCheck ≡ Done → i < stepCount t r → ((j : ℕ) → j < i → StepPasses j)
-        → wordsCheck i ≡ Refused why
+        → wordsCheck t r i ≡ Refused why
         → Judged (verdict.Refused why)
     -- 15: p is the lowest plan such that no picks explain plans 0 to p
     unexplained :
-        (i p : ℕ) → recordCheck ≡ Done → i < stepCount t r → ((j : ℕ) → j < i → StepPasses j) → wordsCheck i ≡ Done
-        → p < planCount t → ((j : ℕ) → j < p → ExplainedFirst t r i (suc j)) → (ExplainedFirst t r i (suc p) → ⊥)
+        (i p : ℕ) → recordCheck ≡ Done → i < stepCount t r → ((j : ℕ) → j < i → StepPasses j) → wordsCheck t r i ≡ Done
+        → p < planCount t → ((j : ℕ) → j < p → ExplainedFirst rule t r i (suc j)) → (ExplainedFirst rule t r i (suc p) → ⊥)
         → Judged (verdict.Refused (Unexplained (suc i) p))
     accepted : recordCheck ≡ Done → ((i : ℕ) → i < stepCount t r → StepPasses i) → Judged (verdict.Accepted (stepCount t r))

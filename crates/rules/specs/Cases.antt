@@ -1,6 +1,6 @@
 -- Document 01, 'Small protocols to try': the lines marked P, in their order, then some that are not, then rows of our own, with those of
--- document 02 (i) among them; one table, and one theorem that all its rows hold. A row of a step or a run goes through the whole call, checks
--- 1 to 12 included. Assumes nothing.
+-- document 02 (i) and (ii) among them; one table, and one theorem that all its rows hold. A row of a step or a run goes through the whole
+-- call, checks 17 and 1 to 12 included, by each rule that its first column names. Assumes nothing.
 use Prim.Native.Nat.{ℕ, zero, suc, _+_, _*_, _/_, _%_, _^_}
 use Prim.Native.String.{String}
 use mathlib.Core.Bool.{Bool, true, false, _&&_}
@@ -8,7 +8,7 @@ use mathlib.Core.Path.{_≡_, refl}
 use mathlib.Core.List.{List, [], _∷_, _++_}
 use lib.ListN.{take, drop}
 use lib.Dec.{eqb}
-use Rattle.rules.specs.Lists.{same, leastFrom, highest}
+use Rattle.rules.specs.Lists.{all, same, leastFrom, highest}
 use Rattle.rules.specs.Bytes.{text}
 use Rattle.rules.specs.States.{stateAt}
 use Rattle.rules.specs.Table.{childrenBefore, children, rank, isOrIsAbove}
@@ -44,6 +44,7 @@ use Rattle.rules.specs.Answers.{
   unfit,
   badWait,
   headerCheck,
+  ruleCheck,
   tableCheck,
   tableVerdict,
   badWord,
@@ -55,6 +56,7 @@ use Rattle.rules.specs.Answers.{
 }
 use Rattle.rules.specs.SubTree.{lastDescendant, subTree}
 use Rattle.rules.specs.Program.{decimalTo, line}
+use Rattle.rules.specs.declared.Refusal.{Refusal}
 use Rattle.rules.specs.declared.Refusal.the-variants.{Unexplained}
 use Rattle.rules.specs.declared.Outcome.{Outcome}
 use Rattle.rules.specs.declared.Outcome.the-variants.{Done, Refused}
@@ -101,14 +103,23 @@ tableOf n body flags present others =
     ∷ 0xFF ∷ 0xFF ∷ body ∷ flags ∷ present ∷ 0x00 ∷ 0x00 ∷ 0x00
     ∷ others
 
--- the entry of a plan with this parent, body and conditions and nothing else, before others
+-- the entry of a plan with this parent, body, flags, conditions and m, before others; and one without flags and m
+entryWith : ℕ → ℕ → ℕ → ℕ → ℕ → List ℕ → List ℕ
+entryWith parent body flags present m others = parent ∷ 0x00 ∷ body ∷ flags ∷ present ∷ 0x00 ∷ 0x00 ∷ m ∷ others
+
 entryUnder : ℕ → ℕ → ℕ → List ℕ → List ℕ
-entryUnder parent body present others = parent ∷ 0x00 ∷ body ∷ 0x00 ∷ present ∷ 0x00 ∷ 0x00 ∷ 0x00 ∷ others
+unfolding entryWith
+entryUnder parent body present others = entryWith parent body 0 present 0 others
 
 -- a chain of three: a root with retry-aborted and complete present, a sequential plan, a leaf
 chain : List ℕ
 unfolding tableOf entryUnder
 chain = tableOf 3 4 1 0x20 (entryUnder 0 1 0 (entryUnder 1 0 0 []))
+
+-- a chain of three with flags as given, in which plan 1 waits for the leaf; all complete when told to
+waiting : ℕ → ℕ → List ℕ
+unfolding tableOf entryWith
+waiting flags flags₁ = tableOf 3 4 flags 0x20 (entryWith 0 1 flags₁ 0x20 1 (entryWith 1 0 4 0x20 0 []))
 
 -- k leaves with these conditions under a root, and an unordered root with k leaves
 leaves : ℕ → ℕ → List ℕ
@@ -149,17 +160,27 @@ idle : List ℕ
 unfolding words
 idle = words 0 0 0
 
+-- The rules by which a row stands: its first column, where a rule has a say.
+abbrev both : List ℕ
+both = 1 ∷ 2 ∷ []
+
+abbrev old : List ℕ
+old = 1 ∷ []
+
+abbrev new : List ℕ
+new = 2 ∷ []
+
 pub data Row : Type 0 where
-  -- one step that is done: table, states, words, new states
-  rowStep : List ℕ → ℕ → List ℕ → ℕ → Row
-  -- a run from the states under a budget: rested after so many steps, with these states
-  rowRests : List ℕ → ℕ → ℕ → ℕ → ℕ → Row
+  -- one step that is done: rules, table, states, words, new states
+  rowStep : List ℕ → List ℕ → ℕ → List ℕ → ℕ → Row
+  -- a run from the states under a budget, behind rules and table: rested after so many steps, with these states
+  rowRests : List ℕ → List ℕ → ℕ → ℕ → ℕ → ℕ → Row
   -- a run from the states under a budget: still moving, with these states
-  rowMoves : List ℕ → ℕ → ℕ → ℕ → Row
+  rowMoves : List ℕ → List ℕ → ℕ → ℕ → ℕ → Row
   -- a table accepted with so many plans
   rowAccepts : List ℕ → ℕ → Row
-  -- a step refused: table, states, words, number, plan
-  rowRefuses : List ℕ → ℕ → List ℕ → ℕ → ℕ → Row
+  -- a step and a run refused, with the states left as they were: rules, table, states, words, number, plan
+  rowRefuses : List ℕ → List ℕ → ℕ → List ℕ → ℕ → ℕ → Row
   -- the part of the states that is a plan's sub tree
   rowShows : List ℕ → ℕ → ℕ → List ℕ → Row
   -- the program's line for a verdict on a table of so many plans
@@ -179,20 +200,35 @@ isAccepted : ℕ → Verdict → Bool
 isAccepted n (verdict.Accepted k) = eqb k n
 isAccepted n (verdict.Refused why) = false
 
+isPlaced : ℕ → ℕ → Refusal → Bool
+isPlaced number plan why = eqb (place why .number) number && eqb (place why .step) 0 && eqb (place why .plan) plan
+
 isRefused : ℕ → ℕ → Outcome → Bool
+unfolding isPlaced
 isRefused number plan Done = false
-isRefused number plan (Refused why) =
-    eqb (place why .number) number && eqb (place why .step) 0 && eqb (place why .plan) plan
+isRefused number plan (Refused why) = isPlaced number plan why
+
+isRefusedRun : ℕ → ℕ → Rest → Bool
+unfolding isPlaced
+isRefusedRun number plan (rest.Rested k) = false
+isRefusedRun number plan rest.Moving = false
+isRefusedRun number plan (rest.Refused why) = isPlaced number plan why
 
 holdsIn : Row → Bool
-unfolding states words idle isRested isMoving isAccepted isRefused
-holdsIn (rowStep t from w to) = isDone (stepAnswer t (states from) w) && same (stepStates t (states from) w) (states to)
-holdsIn (rowRests t from budget k to) =
-    isRested k (runAnswer t (states from) idle budget) && same (runStates t (states from) idle budget) (states to)
-holdsIn (rowMoves t from budget to) =
-    isMoving (runAnswer t (states from) idle budget) && same (runStates t (states from) idle budget) (states to)
+unfolding states words idle isRested isMoving isAccepted isRefused isRefusedRun
+holdsIn (rowStep rules t from w to) =
+    all (λ rule. isDone (stepAnswer rule t (states from) w) && same (stepStates rule t (states from) w) (states to)) rules
+holdsIn (rowRests rules t from budget k to) =
+    all (λ rule.
+    isRested k (runAnswer rule t (states from) idle budget) && same (runStates rule t (states from) idle budget) (states to)) rules
+holdsIn (rowMoves rules t from budget to) =
+    all (λ rule.
+    isMoving (runAnswer rule t (states from) idle budget) && same (runStates rule t (states from) idle budget) (states to)) rules
 holdsIn (rowAccepts t n) = isAccepted n (tableVerdict t)
-holdsIn (rowRefuses t from w number plan) = isRefused number plan (stepAnswer t (states from) w)
+holdsIn (rowRefuses rules t from w number plan) =
+    all (λ rule.
+    isRefused number plan (stepAnswer rule t (states from) w) && same (stepStates rule t (states from) w) (states from)
+    && isRefusedRun number plan (runAnswer rule t (states from) w 8) && same (runStates rule t (states from) w 8) (states from)) rules
 holdsIn (rowShows t from p part) = same (subTree t (states from) p) part
 holdsIn (rowPrints n v told) = same (line n v) (text told)
 
@@ -206,38 +242,38 @@ marked : List Row
 unfolding T1 T1With words idle
 marked =
     -- T1 from 000: 100, 200, 300, 400, 411, 422, 433, 443
-    rowStep T1 000 idle 100
-    ∷ rowStep T1 100 idle 200
-    ∷ rowStep T1 200 idle 300
-    ∷ rowStep T1 300 idle 400
-    ∷ rowStep T1 400 idle 411
-    ∷ rowStep T1 411 idle 422
-    ∷ rowStep T1 422 idle 433
-    ∷ rowStep T1 433 idle 443
+    rowStep both T1 000 idle 100
+    ∷ rowStep both T1 100 idle 200
+    ∷ rowStep both T1 200 idle 300
+    ∷ rowStep both T1 300 idle 400
+    ∷ rowStep both T1 400 idle 411
+    ∷ rowStep both T1 411 idle 422
+    ∷ rowStep both T1 422 idle 433
+    ∷ rowStep both T1 433 idle 443
     -- 433 with pick 1: 434
-    ∷ rowStep T1 433 (words (2 ^ 24) 0 0) 434
+    ∷ rowStep both T1 433 (words (2 ^ 24) 0 0) 434
     -- 443, complete (32) on plan 1: 463; then 464; 32 on plan 2: 466; then 666
-    ∷ rowStep T1 443 (words 0 32 0) 463
-    ∷ rowStep T1 463 idle 464
-    ∷ rowStep T1 464 (words 0 0 32) 466
-    ∷ rowStep T1 466 idle 666
+    ∷ rowStep both T1 443 (words 0 32 0) 463
+    ∷ rowStep both T1 463 idle 464
+    ∷ rowStep both T1 464 (words 0 0 32) 466
+    ∷ rowStep both T1 466 idle 666
     -- rest from 000: budget 8 gives 8 at 443; budget 7 still moving at 433
-    ∷ rowRests T1 000 8 8 443
-    ∷ rowMoves T1 000 7 433
+    ∷ rowRests both T1 000 8 8 443
+    ∷ rowMoves both T1 000 7 433
     -- T1, 473: 778. With m 1: 474. With m 1 and retry: 413
-    ∷ rowStep T1 473 idle 778
-    ∷ rowStep (T1With 0 0 1 32) 473 idle 474
-    ∷ rowStep (T1With 1 0 1 32) 473 idle 413
+    ∷ rowStep both T1 473 idle 778
+    ∷ rowStep both (T1With 0 0 1 32) 473 idle 474
+    ∷ rowStep both (T1With 1 0 1 32) 473 idle 413
     -- root with abort present, word 16, 443: 778
-    ∷ rowStep (T1With 0 16 2 32) 443 (words 16 0 0) 778
+    ∷ rowStep both (T1With 0 16 2 32) 443 (words 16 0 0) 778
     -- root with suspend present, 443, word 4: 553, also with 32 on plan 1; then word 0: 443
-    ∷ rowStep (T1With 0 4 2 32) 443 (words 4 0 0) 553
-    ∷ rowStep (T1With 0 4 2 32) 443 (words 4 32 0) 553
-    ∷ rowStep (T1With 0 4 2 32) 553 idle 443
+    ∷ rowStep both (T1With 0 4 2 32) 443 (words 4 0 0) 553
+    ∷ rowStep both (T1With 0 4 2 32) 443 (words 4 32 0) 553
+    ∷ rowStep both (T1With 0 4 2 32) 553 idle 443
     -- plan 1 with filter present, 411: word 0 gives 482, word 64 gives 412, word 65 gives 422
-    ∷ rowStep (T1With 0 0 2 33) 411 idle 482
-    ∷ rowStep (T1With 0 0 2 33) 411 (words 0 64 0) 412
-    ∷ rowStep (T1With 0 0 2 33) 411 (words 0 65 0) 422
+    ∷ rowStep both (T1With 0 0 2 33) 411 idle 482
+    ∷ rowStep both (T1With 0 0 2 33) 411 (words 0 64 0) 412
+    ∷ rowStep both (T1With 0 0 2 33) 411 (words 0 65 0) 422
     ∷ []
 
 -- lines that are not marked P, as far as no long table or record is needed; programs run them all
@@ -245,14 +281,14 @@ unmarked : List Row
 unfolding T1 T1With star words idle
 unmarked =
     -- word 1 on plan 1: 12. Pick 2 on plan 0: 12. States 444: 11 at plan 2. T1 with m 3: 9 at plan 0. 31 bytes: 5. 257 plans: 4
-    rowRefuses T1 000 (words 0 1 0) 12 1
-    ∷ rowRefuses T1 000 (words (2 * 2 ^ 24) 0 0) 12 0
-    ∷ rowRefuses T1 444 idle 11 2
-    ∷ rowRefuses (T1With 0 0 3 32) 000 idle 9 0
-    ∷ rowRefuses (take 31 T1) 000 idle 5 0
-    ∷ rowRefuses (take 5 T1 ++ 1 ∷ 1 ∷ drop 7 T1) 000 idle 4 0
+    rowRefuses both T1 000 (words 0 1 0) 12 1
+    ∷ rowRefuses both T1 000 (words (2 * 2 ^ 24) 0 0) 12 0
+    ∷ rowRefuses both T1 444 idle 11 2
+    ∷ rowRefuses both (T1With 0 0 3 32) 000 idle 9 0
+    ∷ rowRefuses both (take 31 T1) 000 idle 5 0
+    ∷ rowRefuses both (take 5 T1 ++ 1 ∷ 1 ∷ drop 7 T1) 000 idle 4 0
     -- a 65th child: 6; 64 pass
-    ∷ rowRefuses (star 65) 000 idle 6 65
+    ∷ rowRefuses both (star 65) 000 idle 6 65
     ∷ rowAccepts (star 64) 65
     -- the words of two lines; that they are the right ones is the checker's matter
     ∷ rowPrints 3 (verdict.Accepted 8) "accepted 3 8\n"
@@ -265,33 +301,33 @@ unfolding T1 T1With sequential parallel unordered chain words idle
 ourMoves =
     -- two of the 'Errors a good programmer makes' that no row above refuses: a Suspended plan that completes, and old endings kept
     -- under a retried plan
-    rowStep (T1With 0 4 2 32) 553 (words 0 32 0) 443
-    ∷ rowStep chain 476 idle 410
+    rowStep both (T1With 0 4 2 32) 553 (words 0 32 0) 443
+    ∷ rowStep both chain 476 idle 410
     -- orders only where the parent was and stays Activated: none where it is suspended in this step, none where it is reactivated
-    ∷ rowStep (T1With 0 4 2 32) 400 (words 4 0 0) 500
-    ∷ rowStep (T1With 0 4 2 32) 500 idle 400
+    ∷ rowStep both (T1With 0 4 2 32) 400 (words 4 0 0) 500
+    ∷ rowStep both (T1With 0 4 2 32) 500 idle 400
     -- wait-for-optional: one child is enough for the root, but it waits for the other; without the flag it completes
-    ∷ rowStep (T1With 2 0 1 32) 464 idle 464
-    ∷ rowStep (T1With 0 0 1 32) 464 idle 667
+    ∷ rowStep both (T1With 2 0 1 32) 464 idle 464
+    ∷ rowStep both (T1With 0 0 1 32) 464 idle 667
     -- and an Inactive child is waited for, whatever its sibling
-    ∷ rowStep (sequential 2 1) 460 idle 461
+    ∷ rowStep both (sequential 2 1) 460 idle 461
     -- too many are lost: a Rejected child counts as an Aborted one does
-    ∷ rowStep T1 483 idle 788
+    ∷ rowStep both T1 483 idle 788
     -- sequential: the first child not done gets every order, the second none; the first is done when Completed, Rejected, or Aborted
     -- without retry-aborted
-    ∷ rowStep (sequential 0 1) 400 idle 410
-    ∷ rowStep (sequential 0 1) 430 idle 440
-    ∷ rowStep (sequential 0 2) 460 idle 461
-    ∷ rowStep (sequential 0 1) 480 idle 481
-    ∷ rowStep (sequential 0 1) 470 idle 471
-    ∷ rowStep (sequential 1 1) 470 idle 410
+    ∷ rowStep both (sequential 0 1) 400 idle 410
+    ∷ rowStep both (sequential 0 1) 430 idle 440
+    ∷ rowStep both (sequential 0 2) 460 idle 461
+    ∷ rowStep both (sequential 0 1) 480 idle 481
+    ∷ rowStep both (sequential 0 1) 470 idle 471
+    ∷ rowStep both (sequential 1 1) 470 idle 410
     -- parallel: the gate is shut beside a child that is Possible, and open beside one in execution or where all are Ready
-    ∷ rowStep parallel 432 idle 433
-    ∷ rowStep parallel 433 idle 444
-    ∷ rowStep parallel 443 idle 444
-    ∷ rowStep parallel 473 idle 474
+    ∷ rowStep both parallel 432 idle 433
+    ∷ rowStep both parallel 433 idle 444
+    ∷ rowStep both parallel 443 idle 444
+    ∷ rowStep both parallel 473 idle 474
     -- unordered: every child at once
-    ∷ rowStep unordered 430 idle 441
+    ∷ rowStep both unordered 430 idle 441
     ∷ []
 
 -- the same rows for each of a few bodies
@@ -305,115 +341,155 @@ unfolding forEach T1Of two words idle
 badTurns =
     -- on abort: the first child is considered; the second is not while the first runs or is Suspended, nor when it has completed, and is
     -- once it is Aborted, and then goes on
-    rowStep (two 5 0) 400 idle 410
-    ∷ rowStep (two 5 0) 440 idle 440
-    ∷ rowStep (two 5 0) 450 idle 440
-    ∷ rowStep (two 5 0) 460 idle 460
-    ∷ rowStep (two 5 0) 480 idle 480
-    ∷ rowStep (two 5 0) 470 idle 471
-    ∷ rowStep (two 5 0) 471 idle 472
-    ∷ rowStep (two 5 0) 472 idle 473
-    ∷ rowStep (two 5 0) 473 idle 474
+    rowStep both (two 5 0) 400 idle 410
+    ∷ rowStep both (two 5 0) 440 idle 440
+    ∷ rowStep both (two 5 0) 450 idle 440
+    ∷ rowStep both (two 5 0) 460 idle 460
+    ∷ rowStep both (two 5 0) 480 idle 480
+    ∷ rowStep both (two 5 0) 470 idle 471
+    ∷ rowStep both (two 5 0) 471 idle 472
+    ∷ rowStep both (two 5 0) 472 idle 473
+    ∷ rowStep both (two 5 0) 473 idle 474
     -- on suspend: not beside an Aborted first; on abort or suspend: there too
-    ∷ rowStep (two 6 0) 470 idle 470
-    ∷ rowStep (two 7 0) 470 idle 471
+    ∷ rowStep both (two 6 0) 470 idle 470
+    ∷ rowStep both (two 7 0) 470 idle 471
     -- if-then-else: the second where bit 21 is clear, none yet where it is set alone, the first where both are; what is Ready is activated,
     -- and the other is no longer considered
-    ∷ rowStep (two 8 0) 400 idle 401
-    ∷ rowStep (two 8 0) 400 (words (2 * 2 ^ 20) 0 0) 400
-    ∷ rowStep (two 8 0) 400 (words (3 * 2 ^ 20) 0 0) 410
-    ∷ rowStep (two 8 0) 403 idle 404
-    ∷ rowStep (two 8 0) 403 (words (3 * 2 ^ 20) 0 0) 404
-    ∷ rowStep (two 8 0) 430 idle 440
+    ∷ rowStep both (two 8 0) 400 idle 401
+    ∷ rowStep both (two 8 0) 400 (words (2 * 2 ^ 20) 0 0) 400
+    ∷ rowStep both (two 8 0) 400 (words (3 * 2 ^ 20) 0 0) 410
+    ∷ rowStep both (two 8 0) 403 idle 404
+    ∷ rowStep both (two 8 0) 403 (words (3 * 2 ^ 20) 0 0) 404
+    ∷ rowStep both (two 8 0) 430 idle 440
     -- wait-for-optional, and complete (32) on plan 0: an Inactive second counts as ended beside an ended first (below), and so does a first
-    ∷ rowStep (two 8 2) 406 (words 32 0 0) 606
+    ∷ rowStep both (two 8 2) 406 (words 32 0 0) 606
     -- two Inactive children count as nothing, and no child that is under way counts
-    ∷ rowStep (two 8 2) 400 (words (32 + 2 * 2 ^ 20) 0 0) 400
-    ∷ rowStep (two 5 2) 474 (words 32 0 0) 474
-    ∷ rowStep (two 6 2) 464 (words 32 0 0) 464
-    ∷ rowStep (two 6 2) 446 (words 32 0 0) 446
-    ∷ rowStep (two 6 2) 466 (words 32 0 0) 666
+    ∷ rowStep both (two 8 2) 400 (words (32 + 2 * 2 ^ 20) 0 0) 400
+    ∷ rowStep both (two 5 2) 474 (words 32 0 0) 474
+    ∷ rowStep both (two 6 2) 464 (words 32 0 0) 464
+    ∷ rowStep both (two 6 2) 446 (words 32 0 0) 446
+    ∷ rowStep both (two 6 2) 466 (words 32 0 0) 666
     -- loss is as ever: both named, and one is asked for, or both
-    ∷ rowStep (T1Of 5 0 0 1 0x20) 470 idle 471
-    ∷ rowStep (T1Of 5 0 0 2 0x20) 470 idle 770
+    ∷ rowStep both (T1Of 5 0 0 1 0x20) 470 idle 471
+    ∷ rowStep both (T1Of 5 0 0 2 0x20) 470 idle 770
     ∷ []
     -- on suspend, and on abort or suspend: the second is considered beside a Suspended first, and goes on though that is reactivated or has
     -- completed; not beside one that is in another state but Aborted
     ++ forEach (6 ∷ 7 ∷ []) (λ body.
-    rowStep (two body 0) 450 idle 441
-    ∷ rowStep (two body 0) 441 idle 442
-    ∷ rowStep (two body 0) 461 idle 462
-    ∷ rowStep (two body 0) 430 idle 440
-    ∷ rowStep (two body 0) 440 idle 440
-    ∷ rowStep (two body 0) 460 idle 460
-    ∷ rowStep (two body 0) 480 idle 480
+    rowStep both (two body 0) 450 idle 441
+    ∷ rowStep both (two body 0) 441 idle 442
+    ∷ rowStep both (two body 0) 461 idle 462
+    ∷ rowStep both (two body 0) 430 idle 440
+    ∷ rowStep both (two body 0) 440 idle 440
+    ∷ rowStep both (two body 0) 460 idle 460
+    ∷ rowStep both (two body 0) 480 idle 480
     ∷ [])
     -- wait-for-optional beside a Completed first; beside an Aborted one an Inactive second does not count on abort and on abort or suspend
     -- until it has ended too, and counts on suspend and of if-then-else
-    ++ forEach (5 ∷ 6 ∷ 7 ∷ 8 ∷ []) (λ body. rowStep (two body 2) 460 (words 32 0 0) 660 ∷ [])
-    ++ forEach (5 ∷ 7 ∷ []) (λ body. rowStep (two body 2) 470 (words 32 0 0) 471 ∷ rowStep (two body 2) 476 (words 32 0 0) 676 ∷ [])
-    ++ forEach (6 ∷ 8 ∷ []) (λ body. rowStep (two body 2) 470 (words 32 0 0) 670 ∷ [])
+    ++ forEach (5 ∷ 6 ∷ 7 ∷ 8 ∷ []) (λ body. rowStep both (two body 2) 460 (words 32 0 0) 660 ∷ [])
+    ++ forEach (5 ∷ 7 ∷ []) (λ body.
+    rowStep both (two body 2) 470 (words 32 0 0) 471 ∷ rowStep both (two body 2) 476 (words 32 0 0) 676 ∷ [])
+    ++ forEach (6 ∷ 8 ∷ []) (λ body. rowStep both (two body 2) 470 (words 32 0 0) 670 ∷ [])
 
 -- and refusals
 badTurnsRefused : List Row
 unfolding forEach two three words idle
 badTurnsRefused =
     -- 8: three children, retry-aborted
-    rowRefuses (three 5) 000 idle 8 0
-    ∷ rowRefuses (two 5 1) 000 idle 8 0
-    ∷ rowRefuses (two 8 1) 000 idle 8 0
+    rowRefuses both (three 5) 000 idle 8 0
+    ∷ rowRefuses both (two 5 1) 000 idle 8 0
+    ∷ rowRefuses both (two 8 1) 000 idle 8 0
     -- 11: the second child beside a first that runs, has completed, is Rejected, is Ready, or has begun or ended too
-    ∷ rowRefuses (two 5 0) 441 idle 11 2
-    ∷ rowRefuses (two 5 0) 461 idle 11 2
-    ∷ rowRefuses (two 5 0) 481 idle 11 2
-    ∷ rowRefuses (two 8 0) 411 idle 11 2
-    ∷ rowRefuses (two 8 0) 461 idle 11 2
-    ∷ rowRefuses (two 8 0) 471 idle 11 2
-    ∷ rowRefuses (two 8 0) 481 idle 11 2
+    ∷ rowRefuses both (two 5 0) 441 idle 11 2
+    ∷ rowRefuses both (two 5 0) 461 idle 11 2
+    ∷ rowRefuses both (two 5 0) 481 idle 11 2
+    ∷ rowRefuses both (two 8 0) 411 idle 11 2
+    ∷ rowRefuses both (two 8 0) 461 idle 11 2
+    ∷ rowRefuses both (two 8 0) 471 idle 11 2
+    ∷ rowRefuses both (two 8 0) 481 idle 11 2
     -- 12: bit 20 without bit 21, either bit on a plan of another body, be it under body 8; a bit that none may have
-    ∷ rowRefuses (two 8 0) 000 (words (2 ^ 20) 0 0) 12 0
-    ∷ rowRefuses (two 4 0) 000 (words (2 * 2 ^ 20) 0 0) 12 0
-    ∷ rowRefuses (two 8 0) 000 (words 0 (3 * 2 ^ 20) 0) 12 1
-    ∷ rowRefuses (two 8 0) 000 (words (2 ^ 22) 0 0) 12 0
-    ∷ rowRefuses (two 8 0) 000 (words (2 ^ 23) 0 0) 12 0
+    ∷ rowRefuses both (two 8 0) 000 (words (2 ^ 20) 0 0) 12 0
+    ∷ rowRefuses both (two 4 0) 000 (words (2 * 2 ^ 20) 0 0) 12 0
+    ∷ rowRefuses both (two 8 0) 000 (words 0 (3 * 2 ^ 20) 0) 12 1
+    ∷ rowRefuses both (two 8 0) 000 (words (2 ^ 22) 0 0) 12 0
+    ∷ rowRefuses both (two 8 0) 000 (words (2 ^ 23) 0 0) 12 0
     ∷ []
-    ++ forEach (6 ∷ 7 ∷ []) (λ body. rowRefuses (two body 0) 431 idle 11 2 ∷ rowRefuses (two body 0) 481 idle 11 2 ∷ [])
+    ++ forEach (6 ∷ 7 ∷ []) (λ body. rowRefuses both (two body 0) 431 idle 11 2 ∷ rowRefuses both (two body 0) 481 idle 11 2 ∷ [])
+
+-- document 02 (ii): the two rules, which part where a plan with retry-aborted has an Aborted child
+retries : List Row
+unfolding forEach T1 T1With T1Of sequential waiting words idle
+retries =
+    -- T1 with retry goes from 473 to 413, and by the old rule to 778; a run goes on from there
+    rowStep old (T1With 1 0 2 32) 473 idle 778
+    ∷ rowStep new (T1With 1 0 2 32) 473 idle 413
+    ∷ rowRests old (T1With 1 0 2 32) 473 8 1 778
+    ∷ rowRests new (T1With 1 0 2 32) 473 8 3 434
+    -- and rests at once where a Suspended root is not reactivated
+    ∷ rowRests old (T1With 1 12 2 32) 573 8 1 778
+    ∷ rowRests new (T1With 1 12 2 32) 573 8 0 573
+    -- a Rejected child is lost by both, alone and beside an Aborted one, which is not lost by the new rule
+    ∷ rowStep both (T1With 1 0 2 32) 483 idle 788
+    ∷ rowStep both (T1With 1 0 2 32) 478 idle 778
+    ∷ rowStep old (T1With 1 0 1 32) 478 idle 778
+    ∷ rowStep new (T1With 1 0 1 32) 478 idle 418
+    -- a Suspended root: aborted by the old rule, reactivated by the new one, and it does not retry in that step
+    ∷ rowStep old (T1With 1 4 2 32) 573 idle 778
+    ∷ rowStep new (T1With 1 4 2 32) 573 idle 473
+    -- the root's own abort is felt by both
+    ∷ rowStep both (T1With 1 16 2 32) 473 (words 16 0 0) 778
+    -- completion is asked as before: an Aborted child is ended, with wait-for-optional, also where it would be retried
+    ∷ rowStep both (T1With 3 0 1 32) 467 idle 667
+    -- retry-aborted is the plan's own: plan 1 retries the leaf, and then the root retries plan 1 and plan 1 does not retry the leaf
+    ∷ rowStep old (waiting 0 1) 447 idle 477
+    ∷ rowStep new (waiting 0 1) 447 idle 441
+    ∷ rowStep both (waiting 1 0) 447 idle 477
+    -- the other bodies that may have retry-aborted
+    ∷ rowStep old (sequential 1 2) 470 idle 770
+    ∷ rowStep new (sequential 1 2) 470 idle 410
+    ∷ []
+    ++ forEach (2 ∷ 4 ∷ []) (λ body. rowStep old (T1Of body 1 0 2 32) 473 idle 778 ∷ rowStep new (T1Of body 1 0 2 32) 473 idle 414 ∷ [])
+    -- 17: another rule number, before a short table's 1 and before all else
+    ++ (rowRefuses (0 ∷ 3 ∷ 4294967295 ∷ []) T1 000 idle 17 0
+    ∷ rowRefuses (0 ∷ 3 ∷ 4294967295 ∷ []) (take 7 T1) 000 idle 17 0
+    ∷ rowRefuses (0 ∷ 3 ∷ 4294967295 ∷ []) T1 444 idle 17 0
+    ∷ [])
 
 -- rows of our own: refusals
 ourRefusals : List Row
 unfolding T1 T1With T1Of sequential crossed star words idle
 ourRefusals =
     -- 1 to 3, 6: too short, another mark, another version, a parent that is no ancestor of the plan before
-    rowRefuses (take 7 T1) 000 idle 1 0
-    ∷ rowRefuses (0 ∷ drop 1 T1) 000 idle 2 0
-    ∷ rowRefuses (take 3 T1 ++ 2 ∷ drop 4 T1) 000 idle 3 0
-    ∷ rowRefuses crossed 000 idle 6 3
+    rowRefuses both (take 7 T1) 000 idle 1 0
+    ∷ rowRefuses both (0 ∷ drop 1 T1) 000 idle 2 0
+    ∷ rowRefuses both (take 3 T1 ++ 2 ∷ drop 4 T1) 000 idle 3 0
+    ∷ rowRefuses both crossed 000 idle 6 3
     -- 7: a body, an unused flag, an unused condition. 8: a leaf with children, a root that is named
-    ∷ rowRefuses (T1Of 9 0 0 2 32) 000 idle 7 0
-    ∷ rowRefuses (T1With 8 0 2 32) 000 idle 7 0
-    ∷ rowRefuses (T1With 0 64 2 32) 000 idle 7 0
-    ∷ rowRefuses (T1Of 0 0 0 0 32) 000 idle 8 0
-    ∷ rowRefuses (T1With 4 0 2 32) 000 idle 8 0
+    ∷ rowRefuses both (T1Of 9 0 0 2 32) 000 idle 7 0
+    ∷ rowRefuses both (T1With 8 0 2 32) 000 idle 7 0
+    ∷ rowRefuses both (T1With 0 64 2 32) 000 idle 7 0
+    ∷ rowRefuses both (T1Of 0 0 0 0 32) 000 idle 8 0
+    ∷ rowRefuses both (T1With 4 0 2 32) 000 idle 8 0
     -- 8, of plan 1: an absent condition that is manual, one that is overridable; a leaf with retry-aborted, one with a wait number
-    ∷ rowRefuses (take 21 T1 ++ 16 ∷ drop 22 T1) 000 idle 8 1
-    ∷ rowRefuses (take 22 T1 ++ 16 ∷ drop 23 T1) 000 idle 8 1
-    ∷ rowRefuses (take 19 T1 ++ 5 ∷ drop 20 T1) 000 idle 8 1
-    ∷ rowRefuses (take 23 T1 ++ 1 ∷ drop 24 T1) 000 idle 8 1
+    ∷ rowRefuses both (take 21 T1 ++ 16 ∷ drop 22 T1) 000 idle 8 1
+    ∷ rowRefuses both (take 22 T1 ++ 16 ∷ drop 23 T1) 000 idle 8 1
+    ∷ rowRefuses both (take 19 T1 ++ 5 ∷ drop 20 T1) 000 idle 8 1
+    ∷ rowRefuses both (take 23 T1 ++ 1 ∷ drop 24 T1) 000 idle 8 1
     -- 10: more plans than states
-    ∷ rowRefuses (star 3) 000 idle 10 0
+    ∷ rowRefuses both (star 3) 000 idle 10 0
     -- 11: no code; a child that does not suit a parent that is Inactive, Rejected, Completed or Suspended; a child that a sequential
     -- plan has not come to
-    ∷ rowRefuses T1 409 idle 11 2
-    ∷ rowRefuses T1 010 idle 11 1
-    ∷ rowRefuses T1 866 idle 11 1
-    ∷ rowRefuses T1 613 idle 11 1
-    ∷ rowRefuses T1 543 idle 11 1
-    ∷ rowRefuses (sequential 0 1) 403 idle 11 2
+    ∷ rowRefuses both T1 409 idle 11 2
+    ∷ rowRefuses both T1 010 idle 11 1
+    ∷ rowRefuses both T1 866 idle 11 1
+    ∷ rowRefuses both T1 613 idle 11 1
+    ∷ rowRefuses both T1 543 idle 11 1
+    ∷ rowRefuses both (sequential 0 1) 403 idle 11 2
     -- 12: unused bits, setup satisfied but not satisfiable, a pick of a leaf
-    ∷ rowRefuses T1 000 (words (2 ^ 20) 0 0) 12 0
-    ∷ rowRefuses T1 000 (words 0 (2 ^ 30) 0) 12 1
-    ∷ rowRefuses T1 000 (words 0 0 2) 12 2
-    ∷ rowRefuses T1 000 (words 0 (2 ^ 24) 0) 12 1
+    ∷ rowRefuses both T1 000 (words (2 ^ 20) 0 0) 12 0
+    ∷ rowRefuses both T1 000 (words 0 (2 ^ 30) 0) 12 1
+    ∷ rowRefuses both T1 000 (words 0 0 2) 12 2
+    ∷ rowRefuses both T1 000 (words 0 (2 ^ 24) 0) 12 1
     ∷ []
 
 -- rows of our own: sub trees and lines
@@ -430,13 +506,13 @@ ourShows =
     ∷ []
 
 pub table : List Row
-unfolding marked unmarked ourMoves badTurns badTurnsRefused ourRefusals ourShows
-table = marked ++ unmarked ++ ourMoves ++ badTurns ++ badTurnsRefused ++ ourRefusals ++ ourShows
+unfolding marked unmarked ourMoves badTurns badTurnsRefused retries ourRefusals ourShows
+table = marked ++ unmarked ++ ourMoves ++ badTurns ++ badTurnsRefused ++ retries ++ ourRefusals ++ ourShows
 
 pub rowsHold : allHold table ≡ true
 unfolding
     allHold table T1Of states leaves leastFrom highest stateAt childrenBefore children rank isOrIsAbove holds satisfiable
     move tooManyLost allEnded childrenComplete firstNotDone gateOpen mayActivate chosen due orders stepFirst stepBy stepUnder step badState
     after leastRest badParent undefinedEntry unfitEntry undefinedByte unfit badWait _andThen_ refuseIf refuseAt headerCheck
-    tableCheck badWord callCheck tableVerdict runAnswer runStates lastDescendant subTree decimalTo
+    ruleCheck tableCheck badWord callCheck tableVerdict runAnswer runStates lastDescendant subTree decimalTo
 rowsHold = refl

@@ -18,7 +18,8 @@
 --   heading where the file rests on no unproved fact. What comes from `specs.declared` is an enum or a struct of src/lib.rt.
 --
 -- Words used throughout: t a table, s the states before and w the words of a step, all as bytes; p a plan, q its parent, c a child;
--- x one plan's input word. 'Before' and 'lower' speak of plan numbers, 'above' and 'under' of the tree.
+-- x one plan's input word; `rule` the number of a rule, 1 or 2 (what a step would be by another number nobody is told: 17). 'Before' and
+-- 'lower' speak of plan numbers, 'above' and 'under' of the tree.
 pub mod Lists
 pub mod Bytes
 pub mod States

@@ -1,4 +1,5 @@
--- Document 01: the program `aprcheck`, from the bytes of its input to the bytes of its line. Assumes nothing.
+-- Document 01: the program `aprcheck`, from the bytes of its input to the bytes of its line; it uses rule 2, by document 02 (ii). Assumes
+-- nothing.
 use Prim.Native.Nat.{ℕ, zero, suc, _+_, _*_, _/_, _%_, _<_, _≤_}
 use mathlib.Core.Bool.{cond, _&&_}
 use mathlib.Core.Path.{_≡_}
@@ -47,10 +48,10 @@ module _ (input : List ℕ) where
   abbrev pub recordOf : List ℕ
   recordOf = drop tableLength input
 
-  -- the verdicts that are permitted on an input: 16 is looked for first
+  -- the verdicts that are permitted on an input: 16 is looked for first, and the rule is 2
   pub data Answered : Verdict → Type 0 where
     tooLong : 65536 < length input → Answered (Refused InputLong)
-    judged : {v : Verdict} → length input ≤ 65536 → Judged tableOf recordOf v → Answered v
+    judged : {v : Verdict} → length input ≤ 65536 → Judged 2 tableOf recordOf v → Answered v
 
   -- the line that is printed, n being the plan count
   pub record Printed (out : List ℕ) : Type 0 where

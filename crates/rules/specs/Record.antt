@@ -10,11 +10,11 @@ use Rattle.rules.specs.Words.{pickAllowed}
 use Rattle.rules.specs.Step.{stepUnder}
 use Rattle.rules.specs.declared.PlanState.the-variants.{Inactive}
 
--- Some picks that words may hold lead from the states s, under the words w, to the states shown, as far as the first k plans go.
-pub record Explained (t s w shown : List ℕ) (k : ℕ) : Type 0 where
+-- Some picks that words may hold lead by a rule from the states s, under the words w, to the states shown, as far as the first k plans go.
+pub record Explained (rule : ℕ) (t s w shown : List ℕ) (k : ℕ) : Type 0 where
   pub pick : ℕ → ℕ
   pub allowed : (q : ℕ) → q < planCount t → T (pickAllowed (bodyOf (entry t q)) (length (children t q)) (pick q))
-  pub agrees : take k (stepUnder t s w pick) ≡ take k shown
+  pub agrees : take k (stepUnder rule t s w pick) ≡ take k shown
 
 -- A treatment record r under a table t. Its steps i are counted from 0 here; an answer names step i as i + 1.
 module _ (t r : List ℕ) where
@@ -37,6 +37,6 @@ module _ (t r : List ℕ) where
   statesBefore zero = replicate (planCount t) (code Inactive)
   statesBefore (suc i) = statesOf i
 
-  -- some picks explain the first k plans in step i
-  abbrev pub ExplainedFirst : ℕ → ℕ → Type 0
-  ExplainedFirst i k = Explained t (statesBefore i) (wordsOf i) (statesOf i) k
+-- by a rule, some picks explain the first k plans in step i
+abbrev pub ExplainedFirst : ℕ → List ℕ → List ℕ → ℕ → ℕ → Type 0
+ExplainedFirst rule t r i k = Explained rule t (statesBefore t r i) (wordsOf t r i) (statesOf t r i) k

@@ -1,5 +1,5 @@
--- Document 01, 'One step', with the bodies of document 02 (i): what children's states mean to a plan, what each body orders, one move, one
--- step. Assumes nothing.
+-- Document 01, 'One step', with the bodies of document 02 (i) and the rules of (ii): what children's states mean to a plan, what each body
+-- orders, one move, one step. Assumes nothing.
 use Prim.Native.Nat.{ℕ, zero, suc}
 use mathlib.Core.Bool.{Bool, true, false, cond, not, _&&_, _||_}
 use mathlib.Core.List.{List, [], _∷_, _++_}
@@ -99,6 +99,11 @@ ordersOf IfThenElse again isNext gate isChosen isDue = ordersOfTwo isDue
 abbrev pub done : Bool → PlanState → Bool
 done again state = oneOf (Completed ∷ Rejected ∷ []) state || is Aborted state && not again
 
+-- the states in which a child is lost to a plan: Rejected and Aborted; under rule 2, where the plan has retry-aborted (`again`), Rejected
+-- only. This is all in which the rules differ
+abbrev pub lostStates : ℕ → Bool → List PlanState
+lostStates rule again = cond (eqb rule 2 && again) (Rejected ∷ []) (Rejected ∷ Aborted ∷ [])
+
 -- Bodies of two children, by the states of the first and the second.
 
 -- the second is there for an Aborted first
@@ -141,9 +146,9 @@ module _ (t s : List ℕ) where
   abbrev pub stateOfSecond : ℕ → PlanState
   stateOfSecond q = stateAt s (secondChild t q)
 
-  -- too many are lost: wait-for fails of the children that are neither Rejected nor Aborted
-  unfoldable pub tooManyLost : ℕ → Bool
-  tooManyLost p = not (waitFor t p (λ c. not (oneOf (Rejected ∷ Aborted ∷ []) (stateAt s c))))
+  -- by a rule, too many children of plan p are lost: wait-for fails of those that are not
+  unfoldable pub tooManyLost : ℕ → ℕ → Bool
+  tooManyLost rule p = not (waitFor t p (λ c. not (oneOf (lostStates rule (retryAborted (entry t p))) (stateAt s c))))
 
   -- all children are ended; of a body of two, both count as ended
   unfoldable pub allEnded : ℕ → Bool
@@ -196,15 +201,16 @@ module _ (t s : List ℕ) where
 abbrev pub rootOrders : Orders
 rootOrders = record { considers = true; activates = true; retries = false }
 
--- One step, from the old states s under the words w.
-module _ (t s w : List ℕ) (choice : ℕ → ℕ) where
+-- a parent gives orders only in a step where it was and stays Activated
+abbrev pub ordersIf : List ℕ → List ℕ → List ℕ → (ℕ → ℕ) → PlanState → PlanState → ℕ → ℕ → Orders
+ordersIf t s w choice parentOld parentNew q p =
+    cond (is Activated parentOld && is Activated parentNew) (orders t s (word w q) choice q p) none
+
+-- One step by a rule, from the old states s under the words w.
+module _ (rule : ℕ) (t s w : List ℕ) (choice : ℕ → ℕ) where
   -- plan p, given its parent's new state and orders
   abbrev pub moveOf : PlanState → Orders → ℕ → PlanState
-  moveOf parentNew o p = move parentNew o (entry t p) (word w p) (tooManyLost t s p) (childrenComplete t s p) (stateAt s p)
-
-  -- a parent gives orders only in a step where it was and stays Activated
-  abbrev pub ordersIf : PlanState → PlanState → ℕ → ℕ → Orders
-  ordersIf parentOld parentNew q p = cond (is Activated parentOld && is Activated parentNew) (orders t s (word w q) choice q p) none
+  moveOf parentNew o p = move parentNew o (entry t p) (word w p) (tooManyLost t s rule p) (childrenComplete t s p) (stateAt s p)
 
   -- the new state of plan p, where `new` has those of the plans before it: its parent's state is read there, all else in s.
   -- The root moves as if under a parent that stays Activated, that considers it when Inactive and activates it when Ready
@@ -212,7 +218,7 @@ module _ (t s w : List ℕ) (choice : ℕ → ℕ) where
   newState new zero = moveOf Activated rootOrders 0
   newState new (suc k) =
       let q : ℕ = parent t (suc k) in
-      moveOf (stateAt new q) (ordersIf (stateAt s q) (stateAt new q) q (suc k)) (suc k)
+      moveOf (stateAt new q) (ordersIf t s w choice (stateAt s q) (stateAt new q) q (suc k)) (suc k)
 
   -- the new states of the first k plans: plans move in table order
   unfoldable pub stepFirst : ℕ → List ℕ
@@ -223,11 +229,11 @@ module _ (t s w : List ℕ) (choice : ℕ → ℕ) where
   unfolding stepFirst
   stepBy = stepFirst (planCount t)
 
--- one step under picks, and under the picks of the words
-unfoldable pub stepUnder : List ℕ → List ℕ → List ℕ → (ℕ → ℕ) → List ℕ
+-- one step by a rule under picks, and under the picks of the words
+unfoldable pub stepUnder : ℕ → List ℕ → List ℕ → List ℕ → (ℕ → ℕ) → List ℕ
 unfolding stepBy chosen
-stepUnder t s w pick = stepBy t s w (chosen t s pick)
+stepUnder rule t s w pick = stepBy rule t s w (chosen t s pick)
 
-unfoldable pub step : List ℕ → List ℕ → List ℕ → List ℕ
+unfoldable pub step : ℕ → List ℕ → List ℕ → List ℕ → List ℕ
 unfolding stepUnder
-step t s w = stepUnder t s w (λ q. pickOf (word w q))
+step rule t s w = stepUnder rule t s w (λ q. pickOf (word w q))

@@ -6,7 +6,7 @@ ghost use lib.Count.{ones};
 ghost use Rattle.rules.specs.Bytes.{isSet};
 ghost use Rattle.rules.specs.States.{code, stateOf, is, inSelection, inExecution, ended, wasActivated};
 ghost use Rattle.rules.specs.Table.{bodyNumber, bodyOf, isBody, ofTwo, retryAborted, waitForOptional, named, bitOf, enough};
-ghost use Rattle.rules.specs.Answers.{placed, place};
+ghost use Rattle.rules.specs.Answers.{placed, place, isRule};
 ghost use Rattle.rules.specs.Words.{pickOf, holds, satisfiable};
 
 // The state of a plan.
@@ -296,7 +296,7 @@ pub struct Orders {
     pub retries: bool,
 }
 
-// Why a call is refused: document 01's answer numbers, in their order.
+// Why a call is refused: the answer numbers of documents 01 and 02, in their order.
 pub enum Refusal {
     TableShort,
     TableMark,
@@ -314,6 +314,7 @@ pub enum Refusal {
     RecordLength,
     Unexplained { step: u16, plan: u16 },
     InputLong,
+    RuleNumber,
 }
 
 // The number of a refusal and its place: unnamed places are 0.
@@ -353,6 +354,7 @@ impl Refusal {
             Refusal::RecordLength => Place::new(14, 0, 0),
             Refusal::Unexplained { step, plan } => Place::new(15, step, plan),
             Refusal::InputLong => Place::new(16, 0, 0),
+            Refusal::RuleNumber => Place::new(17, 0, 0),
         }
     }
 }
@@ -374,6 +376,13 @@ pub enum Rest {
     Rested(u16),
     Moving,
     Refused(Refusal),
+}
+
+// Whether there is a rule of this number: 1, the old one, or 2, the new one.
+pub fn is_rule(rule: u32) -> bool
+    ensures { λ r. ⌜ r ≡ isRule rule ⌝ }
+{
+    (rule == 1) | (rule == 2)
 }
 
 // The pick of an input word.

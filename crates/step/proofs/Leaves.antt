@@ -7,8 +7,8 @@ use Rattle.rules.specs.Answers.{callCheck, stepStates}
 use Rattle.rules.specs.declared.Refusal.{Refusal}
 use Rattle.rules.specs.declared.Outcome.the-variants.{Done, Refused}
 
-pub step-leaves : (t s w : List ℕ) (why : Refusal) → callCheck t s w ≡ Refused why → s ≡ stepStates t s w
-step-leaves t s w why e = rw (stepStates, e) refl
+pub step-leaves : (rule : ℕ) (t s w : List ℕ) (why : Refusal) → callCheck rule t s w ≡ Refused why → s ≡ stepStates rule t s w
+step-leaves rule t s w why e = rw (stepStates, e) refl
 
-pub step-steps : (t s w new : List ℕ) → callCheck t s w ≡ Done → new ≡ step t s w → new ≡ stepStates t s w
-step-steps t s w new e h = rw (stepStates, e) h
+pub step-steps : (rule : ℕ) (t s w new : List ℕ) → callCheck rule t s w ≡ Done → new ≡ step rule t s w → new ≡ stepStates rule t s w
+step-steps rule t s w new e h = rw (stepStates, e) h

@@ -6,8 +6,8 @@ use Rattle.rules.proofs.Unique.{one-answer, OneAnswerLeaving}
 use Rattle.step.proofs.step.Reads as step
 use Rattle.step.proofs.rest.Reads as rest
 
-pub step-once : OneAnswerLeaving step.Post (λ e. now (e .1 .0))
+pub step-once : OneAnswerLeaving step.Post (λ e. now (e .1 .1 .0))
 step-once κs a z z′ e e′ h h′ = (one-answer (h .0) (h′ .0), one-answer (h .1) (h′ .1))
 
-pub rest-once : OneAnswerLeaving rest.Post (λ e. now (e .1 .0))
+pub rest-once : OneAnswerLeaving rest.Post (λ e. now (e .1 .1 .0))
 rest-once κs a z z′ e e′ h h′ = (one-answer (h .0) (h′ .0), one-answer (h .1) (h′ .1))

@@ -19,11 +19,11 @@ use pass::unchanged;
 use rules::Outcome;
 use rules::Rest;
 
-// One synchronous step over the states, or a refusal that changes none of them. Its work space is cleared in each call: a small tree
-// does not pay for a large one.
-pub fn step(table: &[u8], states: &mut [u8], words: &[u8]) -> Outcome
-    ensures answer { λ r. ⌜ r ≡ stepAnswer (now (table .entry)) (now (states .entry)) (now (words .entry)) ⌝ }
-    ensures left { λ _. ⌜ now (states .exit) ≡ stepStates (now (table .entry)) (now (states .entry)) (now (words .entry)) ⌝ }
+// One synchronous step over the states, by a rule, or a refusal that changes none of them. Its work space is cleared in each call: a
+// small tree does not pay for a large one.
+pub fn step(rule: u32, table: &[u8], states: &mut [u8], words: &[u8]) -> Outcome
+    ensures answer { λ r. ⌜ r ≡ stepAnswer rule (now (table .entry)) (now (states .entry)) (now (words .entry)) ⌝ }
+    ensures left { λ _. ⌜ now (states .exit) ≡ stepStates rule (now (table .entry)) (now (states .entry)) (now (words .entry)) ⌝ }
 {
     // the bytes of a table of 16 plans, and then of 64
     if table.len() <= 136 {
@@ -33,6 +33,7 @@ pub fn step(table: &[u8], states: &mut [u8], words: &[u8]) -> Outcome
         let mut sets = [0u64; 144];
         let mut new = [0u8; 16];
         return step_within(
+            rule,
             table,
             states,
             words,
@@ -50,6 +51,7 @@ pub fn step(table: &[u8], states: &mut [u8], words: &[u8]) -> Outcome
         let mut sets = [0u64; 576];
         let mut new = [0u8; 64];
         return step_within(
+            rule,
             table,
             states,
             words,
@@ -66,6 +68,7 @@ pub fn step(table: &[u8], states: &mut [u8], words: &[u8]) -> Outcome
     let mut sets = [0u64; 2304];
     let mut new = [0u8; 256];
     step_within(
+        rule,
         table,
         states,
         words,
@@ -77,22 +80,31 @@ pub fn step(table: &[u8], states: &mut [u8], words: &[u8]) -> Outcome
     )
 }
 
-// Steps under held words until one more step changes nothing, or until the budget is used; or a refusal that changes no state.
-pub fn rest(table: &[u8], states: &mut [u8], words: &[u8], budget: u16) -> Rest
-    ensures answer { λ r. ⌜ r ≡ runAnswer (now (table .entry)) (now (states .entry)) (now (words .entry)) budget ⌝ }
-    ensures left { λ _. ⌜ now (states .exit) ≡ runStates (now (table .entry)) (now (states .entry)) (now (words .entry)) budget ⌝ }
+// Steps by a rule under held words until one more step changes nothing, or until the budget is used; or a refusal that changes no state.
+pub fn rest(rule: u32, table: &[u8], states: &mut [u8], words: &[u8], budget: u16) -> Rest
+    ensures answer { λ r. ⌜ r ≡ runAnswer rule (now (table .entry)) (now (states .entry)) (now (words .entry)) budget ⌝ }
+    ensures left { λ _. ⌜ now (states .exit) ≡ runStates rule (now (table .entry)) (now (states .entry)) (now (words .entry)) budget ⌝ }
 {
     let mut ranks = [0u8; 256];
     let mut counts = [0u8; 256];
     let mut names = [0u64; 256];
-    match check_call(table, states, words, &mut ranks, &mut counts, &mut names) {
+    match check_call(
+        rule,
+        table,
+        states,
+        words,
+        &mut ranks,
+        &mut counts,
+        &mut names,
+    ) {
         Outcome::Refused(why) => Rest::Refused(why),
-        Outcome::Done => settle(table, &ranks, &names, states, words, budget),
+        Outcome::Done => settle(rule, table, &ranks, &names, states, words, budget),
     }
 }
 
 // The same, within work space that has room for every plan of the table, and whose words are 0.
 fn step_within(
+    rule: u32,
     table: &[u8],
     states: &mut [u8],
     words: &[u8],
@@ -104,21 +116,22 @@ fn step_within(
 ) -> Outcome
     requires facts { ⌜ FactsRoom (now table) (now ranks) (now counts) (now names) ⌝ }
     requires room { ⌜ RoomToStep (now table) (now sets) (now new) ⌝ }
-    ensures answer { λ r. ⌜ r ≡ stepAnswer (now (table .entry)) (now (states .entry)) (now (words .entry)) ⌝ }
-    ensures left { λ _. ⌜ now (states .exit) ≡ stepStates (now (table .entry)) (now (states .entry)) (now (words .entry)) ⌝ }
+    ensures answer { λ r. ⌜ r ≡ stepAnswer rule (now (table .entry)) (now (states .entry)) (now (words .entry)) ⌝ }
+    ensures left { λ _. ⌜ now (states .exit) ≡ stepStates rule (now (table .entry)) (now (states .entry)) (now (words .entry)) ⌝ }
 {
-    match check_call(table, states, words, ranks, counts, names) {
+    match check_call(rule, table, states, words, ranks, counts, names) {
         Outcome::Refused(why) => Outcome::Refused(why),
         Outcome::Done => {
             // the numbers of children are done with: their room is the picks'
-            step_over(table, ranks, names, states, words, sets, counts, new);
+            step_over(rule, table, ranks, names, states, words, sets, counts, new);
             Outcome::Done
         }
     }
 }
 
-// One step over states that have passed the checks.
+// One step by a rule over states that have passed the checks.
 fn step_over(
+    rule: u32,
     table: &[u8],
     ranks: &[u8],
     names: &[u64],
@@ -130,17 +143,29 @@ fn step_over(
 )
     requires moves { ⌜ MayMove (now table) (now states) (now words) (now ranks) (now names) ⌝ }
     requires room { ⌜ StepRoom (length (now states)) (now sets) (now picks) (now new) ⌝ }
-    ensures { λ _. ⌜ now (states .exit) ≡ step (now (table .entry)) (now (states .entry)) (now (words .entry)) ⌝ }
+    ensures { λ _. ⌜ now (states .exit) ≡ step rule (now (table .entry)) (now (states .entry)) (now (words .entry)) ⌝ }
 {
     let n = states.len();
     survey(table, n, ranks, states, sets);
     take_picks(words, n, picks);
-    advance(table, n, ranks, names, sets, picks, states, words, new);
+    advance(
+        rule,
+        table,
+        n,
+        ranks,
+        names,
+        sets,
+        picks,
+        states,
+        words,
+        new,
+    );
     take_over(new, states);
 }
 
-// Steps over states that have passed the checks, until one more step changes nothing or the budget is used.
+// Steps by a rule over states that have passed the checks, until one more step changes nothing or the budget is used.
 fn settle(
+    rule: u32,
     table: &[u8],
     ranks: &[u8],
     names: &[u64],
@@ -151,10 +176,10 @@ fn settle(
     requires moves { ⌜ MayMove (now table) (now states) (now words) (now ranks) (now names) ⌝ }
     requires words { ⌜ BranchesAgree (now table) (now words) ⌝ }
     ensures answer { λ r. ⌜ r
-        ≡ restAnswer (now (table .entry)) (leastRest (now (table .entry)) (now (states .entry)) (now (words .entry)) budget) ⌝ }
+        ≡ restAnswer (leastRest rule (now (table .entry)) (now (states .entry)) (now (words .entry)) budget) ⌝ }
     ensures left { λ _. ⌜ now (states .exit)
-        ≡ statesAt (now (table .entry)) (now (states .entry)) (now (words .entry)) budget
-        (leastRest (now (table .entry)) (now (states .entry)) (now (words .entry)) budget) ⌝ }
+        ≡ statesAt rule (now (table .entry)) (now (states .entry)) (now (words .entry)) budget
+        (leastRest rule (now (table .entry)) (now (states .entry)) (now (words .entry)) budget) ⌝ }
 {
     let n = states.len();
     let mut sets = [0u64; 2304];
@@ -165,6 +190,7 @@ fn settle(
     let mut k = 0u16;
     loop {
         advance(
+            rule,
             table,
             n,
             ranks,

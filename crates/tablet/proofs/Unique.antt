@@ -25,6 +25,7 @@ use Rattle.rules.specs.declared.Refusal.the-variants.{
   RecordLength,
   Unexplained,
   InputLong,
+  RuleNumber,
 }
 use Rattle.rules.proofs.Unique.{one-answer, OneAnswer, OneAnswerLeaving}
 use Rattle.demands.proofs.Unique.{judged-once}
@@ -33,16 +34,16 @@ use Rattle.tablet.proofs.asbru_rest.Reads as asbru-rest
 use Rattle.tablet.proofs.asbru_check.Reads as asbru-check
 use Rattle.tablet.specs.Packed.{packed, packedRefusal, packedVerdict, Told}
 
-told-once : (t r : List ℕ) {a b : ℕ} → Told t r a → Told t r b → a ≡ b
-told-once t r x y = x .told ∙ ap packedVerdict (judged-once t r (x .judged) (y .judged)) ∙ sym (y .told)
+told-once : (rule : ℕ) (t r : List ℕ) {a b : ℕ} → Told rule t r a → Told rule t r b → a ≡ b
+told-once rule t r x y = x .told ∙ ap packedVerdict (judged-once rule t r (x .judged) (y .judged)) ∙ sym (y .told)
 
 pub asbru-check-once : OneAnswer asbru-check.Post
-asbru-check-once = record { once = λ κs a z z′ e e′ h h′. told-once (now (a .0)) (now (a .1 .0)) h h′ }
+asbru-check-once = record { once = λ κs a z z′ e e′ h h′. told-once (a .0) (now (a .1 .0)) (now (a .1 .1 .0)) h h′ }
 
-pub asbru-step-once : OneAnswerLeaving asbru-step.Post (λ e. now (e .1 .0))
+pub asbru-step-once : OneAnswerLeaving asbru-step.Post (λ e. now (e .1 .1 .0))
 asbru-step-once κs a z z′ e e′ h h′ = (one-answer (h .0) (h′ .0), one-answer (h .1) (h′ .1))
 
-pub asbru-rest-once : OneAnswerLeaving asbru-rest.Post (λ e. now (e .1 .0))
+pub asbru-rest-once : OneAnswerLeaving asbru-rest.Post (λ e. now (e .1 .1 .0))
 asbru-rest-once κs a z z′ e e′ h h′ = (one-answer (h .0) (h′ .0), one-answer (h .1) (h′ .1))
 
 -- how a host takes an answer apart
@@ -63,8 +64,8 @@ pub nothing-lost :
     → (number ≡ number′) × (step ≡ step′) × (plan ≡ plan′)
 nothing-lost number step plan number′ step′ plan′ a b a′ b′ e = (omega arith, omega arith, omega arith)
 
--- a refusal's number is 1 to 16
-pub refusal-number : (why : Refusal) → (0 < place why .number) × (place why .number ≤ 16)
+-- a refusal's number is 1 to 17
+pub refusal-number : (why : Refusal) → (0 < place why .number) × (place why .number ≤ 17)
 refusal-number TableShort = (omega arith, omega arith)
 refusal-number TableMark = (omega arith, omega arith)
 refusal-number TableVersion = (omega arith, omega arith)
@@ -81,6 +82,7 @@ refusal-number RecordHeader = (omega arith, omega arith)
 refusal-number RecordLength = (omega arith, omega arith)
 refusal-number (Unexplained i p) = (omega arith, omega arith)
 refusal-number InputLong = (omega arith, omega arith)
+refusal-number RuleNumber = (omega arith, omega arith)
 
 -- so two refusals that are packed alike have the same number, step and plan,
 pub same-refusal :

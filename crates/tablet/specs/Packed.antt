@@ -15,7 +15,7 @@ use Rattle.rules.specs.declared.Verdict.the-variants as verdict
 abbrev pub packed : ℕ → ℕ → ℕ → ℕ
 packed number step plan = number + plan * 2 ^ 16 + step * 2 ^ 32
 
--- a refusal: its answer number, 1 to 16, and its place; unnamed places are 0
+-- a refusal: its answer number, 1 to 17, and its place; unnamed places are 0
 abbrev pub packedRefusal : Refusal → ℕ
 packedRefusal why = packed (place why .number) (place why .step) (place why .plan)
 
@@ -35,8 +35,8 @@ abbrev pub packedVerdict : Verdict → ℕ
 packedVerdict (verdict.Accepted steps) = packed 0 steps 0
 packedVerdict (verdict.Refused why) = packedRefusal why
 
--- an answer of the checker on a table and a record: a verdict that is permitted on them, packed
-pub record Told (t r : List ℕ) (answer : ℕ) : Type 0 where
+-- an answer of the checker by a rule on a table and a record: a verdict that is permitted on them, packed
+pub record Told (rule : ℕ) (t r : List ℕ) (answer : ℕ) : Type 0 where
   pub verdict : Verdict
-  pub judged : Judged t r verdict
+  pub judged : Judged rule t r verdict
   pub told : answer ≡ packedVerdict verdict

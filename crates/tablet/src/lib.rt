@@ -8,30 +8,37 @@ use rules::Refusal;
 use rules::Rest;
 use rules::Verdict;
 
-// One synchronous step over the states, or a refusal that changes none of them.
+// One synchronous step over the states, by a rule, or a refusal that changes none of them.
 #[no_mangle]
-pub extern "C" fn asbru_step(table: &[u8], states: &mut [u8], words: &[u8]) -> u64
-    ensures answer { λ r. ⌜ r ≡ packedOutcome (stepAnswer (now (table .entry)) (now (states .entry)) (now (words .entry))) ⌝ }
-    ensures left { λ _. ⌜ now (states .exit) ≡ stepStates (now (table .entry)) (now (states .entry)) (now (words .entry)) ⌝ }
+pub extern "C" fn asbru_step(rule: u32, table: &[u8], states: &mut [u8], words: &[u8]) -> u64
+    ensures answer { λ r. ⌜ r ≡ packedOutcome (stepAnswer rule (now (table .entry)) (now (states .entry)) (now (words .entry))) ⌝ }
+    ensures left { λ _. ⌜ now (states .exit) ≡ stepStates rule (now (table .entry)) (now (states .entry)) (now (words .entry)) ⌝ }
 {
-    pack_outcome(step::step(table, states, words))
+    pack_outcome(step::step(rule, table, states, words))
 }
 
-// Steps under held words until one more step changes nothing, or until the budget is used; or a refusal that changes no state.
+// Steps by a rule under held words until one more step changes nothing, or until the budget is used; or a refusal that changes no state.
 #[no_mangle]
-pub extern "C" fn asbru_rest(table: &[u8], states: &mut [u8], words: &[u8], budget: u16) -> u64
-    ensures answer { λ r. ⌜ r ≡ packedRest budget (runAnswer (now (table .entry)) (now (states .entry)) (now (words .entry)) budget) ⌝ }
-    ensures left { λ _. ⌜ now (states .exit) ≡ runStates (now (table .entry)) (now (states .entry)) (now (words .entry)) budget ⌝ }
+pub extern "C" fn asbru_rest(
+    rule: u32,
+    table: &[u8],
+    states: &mut [u8],
+    words: &[u8],
+    budget: u16,
+) -> u64
+    ensures answer { λ r. ⌜ r
+        ≡ packedRest budget (runAnswer rule (now (table .entry)) (now (states .entry)) (now (words .entry)) budget) ⌝ }
+    ensures left { λ _. ⌜ now (states .exit) ≡ runStates rule (now (table .entry)) (now (states .entry)) (now (words .entry)) budget ⌝ }
 {
-    pack_rest(step::rest(table, states, words, budget), budget)
+    pack_rest(step::rest(rule, table, states, words, budget), budget)
 }
 
-// Whether a record can come from the rules under a table.
+// Whether a record can come from the rules under a table, by the rule named.
 #[no_mangle]
-pub extern "C" fn asbru_check(table: &[u8], record: &[u8]) -> u64
-    ensures { λ r. ⌜ Told (now (table .entry)) (now («record» .entry)) r ⌝ }
+pub extern "C" fn asbru_check(rule: u32, table: &[u8], record: &[u8]) -> u64
+    ensures { λ r. ⌜ Told rule (now (table .entry)) (now («record» .entry)) r ⌝ }
 {
-    pack_verdict(record::check(table, record))
+    pack_verdict(record::check(rule, table, record))
 }
 
 // What the step answers.

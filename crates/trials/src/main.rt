@@ -1,12 +1,12 @@
 // Runs trials and prints each answer. Standard input has a line for each trial, its fields parted by single spaces:
-//   table TABLE                       checks a table
-//   subtree TABLE STATES PLAN         asks for a sub tree
-//   move TABLE STATES WORDS           takes one step, and shows the states that it leaves
-//   rest TABLE STATES WORDS BUDGET    steps until rest, and shows the states that it leaves
-//   judge TABLE RECORD                checks a record
+//   table TABLE                           checks a table
+//   subtree TABLE STATES PLAN             asks for a sub tree
+//   move RULE TABLE STATES WORDS          takes one step, and shows the states that it leaves
+//   rest RULE TABLE STATES WORDS BUDGET   steps until rest, and shows the states that it leaves
+//   judge RULE TABLE RECORD               checks a record
 // with bytes in hexadecimal (see `bytes_of`) and numbers in decimal. A line that begins with `#` is printed as it is,
 // and an empty one as well.
-// Assumes what `io` does of read and write, and that the input is at most 65,536 bytes.
+// Assumes what `io` does of read and write, and that the input is at most 262,144 bytes.
 ghost use mathlib.Core.Path.{_≡_};
 ghost use Prim.Native.Nat.{_≤_, _<_};
 ghost use lib.ListN.{length};
@@ -19,9 +19,16 @@ use rules::Rest;
 use rules::Verdict;
 
 fn main() {
-    let mut input = io::large_buffer();
+    let mut input = input_buffer();
     let n = io::read_full(STDIN_FILENO, &mut input);
     run_lines(&input[..n]);
+}
+
+// Room for all trials.
+fn input_buffer() -> [u8; 262144]
+    ensures { λ r. ⌜ 262144 ≡ length r ⌝ }
+{
+    [0; 262144]
 }
 
 // Each line in turn.
@@ -167,14 +174,14 @@ fn least(a: usize, b: usize) -> usize
     if a < b { a } else { b }
 }
 
-// The number that a decimal text says, at most 16 bits of it; a byte that is no digit counts as 0.
+// The number that a decimal text says, at most 32 bits of it; a byte that is no digit counts as 0.
 fn number_of(text: &[u8]) -> usize
-    ensures { λ r. ⌜ r < 65536 ⌝ }
+    ensures { λ r. ⌜ r < 4294967296 ⌝ }
 {
     let mut n: usize = 0;
     let mut i = 0;
     while i < text.len() {
-        n = (n * 10 + digit(text[i]) as usize) % 65536;
+        n = (n * 10 + digit(text[i]) as usize) % 4294967296;
         i += 1;
     }
     n
@@ -197,31 +204,44 @@ fn run_sub_tree(line: &[u8]) {
 // Lends a table, states and words to the step, or to the run to rest.
 fn run_call(line: &[u8], rests: bool) {
     let mut space = io::buffer();
-    let n = bytes_of(field(line, 1), &mut space);
+    let n = bytes_of(field(line, 2), &mut space);
     let mut states = io::buffer();
-    let m = bytes_of(field(line, 2), &mut states);
+    let m = bytes_of(field(line, 3), &mut states);
     let mut words = io::buffer();
-    let k = bytes_of(field(line, 3), &mut words);
-    let budget = number_of(field(line, 4)) as u16;
-    call(&space[..n], &mut states[..m], &words[..k], budget, rests);
+    let k = bytes_of(field(line, 4), &mut words);
+    let rule = rule_of(line);
+    let budget = (number_of(field(line, 5)) % 65536) as u16;
+    call(
+        rule,
+        &space[..n],
+        &mut states[..m],
+        &words[..k],
+        budget,
+        rests,
+    );
 }
 
-fn call(table: &[u8], states: &mut [u8], words: &[u8], budget: u16, rests: bool) {
+// The rule number that a line names first.
+fn rule_of(line: &[u8]) -> u32 {
+    number_of(field(line, 1)) as u32
+}
+
+fn call(rule: u32, table: &[u8], states: &mut [u8], words: &[u8], budget: u16, rests: bool) {
     if rests {
-        print_rest(step::rest(table, states, words, budget));
+        print_rest(step::rest(rule, table, states, words, budget));
         print_left(states);
         return;
     }
-    print_outcome(step::step(table, states, words));
+    print_outcome(step::step(rule, table, states, words));
     print_left(states);
 }
 
 fn run_judge(line: &[u8]) {
     let mut space = io::buffer();
-    let n = bytes_of(field(line, 1), &mut space);
+    let n = bytes_of(field(line, 2), &mut space);
     let mut steps = record_buffer();
-    let m = bytes_of(field(line, 2), &mut steps);
-    print_verdict(record::check(&space[..n], &steps[..m]));
+    let m = bytes_of(field(line, 3), &mut steps);
+    print_verdict(record::check(rule_of(line), &space[..n], &steps[..m]));
 }
 
 // Room for the header and one step too many of a record of one plan.

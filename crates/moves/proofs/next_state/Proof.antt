@@ -38,6 +38,9 @@ module _ (c : tie.After-from-byte) where
   abbrev start : tie.Start
   start = c .before .before .before .before .before .before .before .before .before .before .before
 
+  abbrev rule : ℕ
+  rule = start .args .rule
+
   abbrev t : List ℕ
   t = now (start .args .table)
 
@@ -63,7 +66,7 @@ module _ (c : tie.After-from-byte) where
   hopeful x = satisfiable x (entry t p) (word w p)
 
   abbrev lost : Bool
-  lost = tooManyLost t s p
+  lost = tooManyLost t s rule p
 
   abbrev complete : Bool
   complete = childrenComplete t s p
@@ -75,11 +78,11 @@ module _ (c : tie.After-from-byte) where
   moved old = move parent (ordersAt t s w choice parent p) (entry t p) (word w p) lost complete old
 
   abbrev asked : PlanState
-  asked = newState t s w choice (now (start .args .new)) p
+  asked = newState rule t s w choice (now (start .args .new)) p
 
   leads : {old new : PlanState} → c .from-byte .result ≡ old → moved old ≡ new → asked ≡ new
   leads told there =
-      as-move t s w choice (now (start .args .new)) p _ _ (c .before .before .parent-state .ensures)
+      as-move t s w choice rule (now (start .args .new)) p _ _ (c .before .before .parent-state .ensures)
       (c .from-byte .ensures ∙ sym (state-is s p))
       ∙ ap moved told
       ∙ there

@@ -16,16 +16,16 @@ use Rattle.pass.proofs.advance.Statement.{statement}
 use Rattle.pass.proofs.advance.Tie as tie
 
 abbrev Inv-loop : tie.InvT-loop
-Inv-loop table n ranks names sets picks old words new₀ p₀ new p =
-    (p ≤ n) × (take p new ≡ stepFirst table old words (chosen table old (picksOf picks)) p) × Beyond p new₀ new
+Inv-loop rule table n ranks names sets picks old words new₀ p₀ new p =
+    (p ≤ n) × (take p new ≡ stepFirst rule table old words (chosen table old (picksOf picks)) p) × Beyond p new₀ new
 
 abbrev μ-loop : tie.MeasureT-loop
-μ-loop table n ranks names sets picks old words new₀ p₀ new p = n - p
+μ-loop rule table n ranks names sets picks old words new₀ p₀ new p = n - p
 
 loop-holds : tie.Need-loop-holds Inv-loop μ-loop
 loop-holds c =
     let start = c .before .before .before .before .before .before .before .before in
-    (omega arith, none-moved _ _ _ _ (now (start .args .new)), none-written (now (start .args .new)))
+    (omega arith, none-moved _ _ _ _ _ (now (start .args .new)), none-written (now (start .args .new)))
 
 -- in a turn: the start, and that the plan is the table's and has its place
 abbrev start-of : tie.In-loop Inv-loop μ-loop → tie.Start Inv-loop μ-loop
@@ -50,7 +50,7 @@ loop-again c =
     let start = start-of turn in
     let at = turn .before .loop in (
       omega (arith, turn .loop-test .taken),
-      one-more-moved _ _ _ _ (at .new) (at .p) _ (λ h. start .pre .0 .down (at .p) h (inside turn)) (placed turn)
+      one-more-moved _ _ _ _ _ (at .new) (at .p) _ (λ h. start .pre .0 .down (at .p) h (inside turn)) (placed turn)
           (c .to-byte .ensures ∙ ap code (c .before .next-state .ensures))
           (at .inv .1),
       one-more-written _ (at .new) (at .p) _ (at .inv .2),
@@ -59,6 +59,7 @@ loop-again c =
 returns : tie.Need-returns Inv-loop μ-loop
 returns c =
     let start = c .before .before .before .before .before .before .before .before .before .before in
+    let rule : ℕ = start .args .rule in
     let t = now (start .args .table) in
     let s = now (start .args .old) in
     let w = now (start .args .words) in
@@ -67,8 +68,8 @@ returns c =
     let end : at .p ≡ start .args .n = omega (arith, at .inv .0, c .loop-test .left) in (
       ap (λ (k : ℕ). take k (at .new)) (sym end)
           ∙ at .inv .1
-          ∙ ap (λ (k : ℕ). stepFirst t s w (chosen t s picks) k) (end ∙ start .pre .1 .1 .0)
-          ∙ all-moved t s w picks,
+          ∙ ap (λ (k : ℕ). stepFirst rule t s w (chosen t s picks) k) (end ∙ start .pre .1 .1 .0)
+          ∙ all-moved rule t s w picks,
       rw end at (at .inv .2),
     )
 

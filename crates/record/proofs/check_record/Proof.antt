@@ -12,7 +12,7 @@ use Rattle.record.proofs.check_record.Statement.{statement}
 use Rattle.record.proofs.check_record.Tie as tie
 
 u16-at-requires : tie.Need-u16-at-requires
-u16-at-requires c κs = omega (arith, passes _ (c .before .before .before .before .pre .done) .long)
+u16-at-requires c κs = omega (arith, passes _ (c .before .before .before .before .pre .1 .done) .long)
 
 -- where the header has been looked at: the start, and what the look told
 abbrev start-of : tie.After-wrong-header → tie.Start
@@ -24,7 +24,7 @@ told :
 told c = sym (c .wrong-header .ensures (now (start-of c .args .table)) (c .before .u16-at .ensures))
 
 returns : tie.Need-returns
-returns c = header-refused _ _ (start-of (c .before) .pre .done) (told (c .before) ∙ c .if1 .taken)
+returns c = header-refused _ _ _ (start-of (c .before) .pre .0) (start-of (c .before) .pre .1 .done) (told (c .before) ∙ c .if1 .taken)
 
 sub-body : tie.Need-sub-body
 sub-body c =
@@ -33,13 +33,13 @@ sub-body c =
 
 -- there is a plan, so that a step has bytes
 some-plan : (c : tie.Else1) → 0 < c .before .before .u16-at .result
-some-plan c = omega (arith, c .before .before .u16-at .ensures, tree _ (passes _ (start-of (c .before) .pre .done)) .some)
+some-plan c = omega (arith, c .before .before .u16-at .ensures, tree _ (passes _ (start-of (c .before) .pre .1 .done)) .some)
 
 returns-2 : tie.Need-returns-2
 returns-2 c =
     let looked = c .before .before in
-    length-refused _ _ (start-of looked .pre .done) _ (looked .before .u16-at .ensures) (told looked ∙ c .before .if1 .left)
-    (c .if2 .taken)
+    length-refused _ _ _ (start-of looked .pre .0) (start-of looked .pre .1 .done) _ (looked .before .u16-at .ensures)
+    (told looked ∙ c .before .if1 .left) (c .if2 .taken)
 
 check-steps-requires : tie.Need-check-steps-requires
 check-steps-requires c κs =
@@ -47,8 +47,8 @@ check-steps-requires c κs =
     let start = start-of looked in
     let whole = looked .before .u16-at .ensures in (
       record {
-        done = form-passes _ _ (start .pre .done) _ whole (told looked ∙ c .before .if1 .left) (c .if2 .left);
-        prepared = start .pre;
+        done = form-passes _ _ _ (start .pre .0) (start .pre .1 .done) _ whole (told looked ∙ c .before .if1 .left) (c .if2 .left);
+        prepared = start .pre .1;
       },
       (whole, ap (λ (k : ℕ). (length (now (start .args .«record»)) - 8) / (5 * k)) whole),
     )

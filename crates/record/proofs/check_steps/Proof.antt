@@ -51,29 +51,30 @@ use Rattle.record.proofs.check_steps.Tie as tie
 
 -- among the plans of a step: those before p are as shown
 abbrev Inv-loop : tie.InvT-loop
-Inv-loop table n ranks names «record» steps sets picks kept new unused bad-step₀ bad-plan₀ i wrong old shown p₀ bad-step bad-plan p =
+Inv-loop rule table n ranks names «record» steps sets picks kept new unused bad-step₀ bad-plan₀ i wrong old shown p₀ bad-step bad-plan p =
     (p ≤ n) × (bad-step ≡ 0) × ((k : ℕ) → k < p → byteAt new k ≡ byteAt shown k)
 
 abbrev μ-loop : tie.MeasureT-loop
-μ-loop table n ranks names «record» steps sets picks kept new unused bad-step₀ bad-plan₀ i wrong old shown p₀ bad-step bad-plan p = n - p
+μ-loop rule table n ranks names «record» steps sets picks kept new unused bad-step₀ bad-plan₀ i wrong old shown p₀ bad-step bad-plan p =
+    n - p
 
 -- among the steps: those before i pass
-record Passed (t r : List ℕ) (n steps : ℕ) (sets picks kept new : List ℕ) (bad-step i : ℕ) : Type 0 where
+record Passed (rule : ℕ) (t r : List ℕ) (n steps : ℕ) (sets picks kept new : List ℕ) (bad-step i : ℕ) : Type 0 where
   within : i ≤ steps
   none-bad : bad-step ≡ 0
   sets-long : length sets ≡ 2304
   picks-long : length picks ≡ 256
   kept-long : length kept ≡ 256
   new-long : length new ≡ 256
-  pass : (j : ℕ) → j < i → StepPasses t r j
+  pass : (j : ℕ) → j < i → StepPasses rule t r j
   surveyed : Surveyed t (statesBefore t r i) n sets
 
 abbrev Inv-search : tie.InvT-search
-Inv-search table n ranks names «record» steps idle sets₀ picks₀ kept₀ new₀ unused bad-step₀ bad-plan₀ i₀ sets picks kept new bad-step bad-plan i =
-    Passed table «record» n steps sets picks kept new bad-step i
+Inv-search rule table n ranks names «record» steps idle sets₀ picks₀ kept₀ new₀ unused bad-step₀ bad-plan₀ i₀ sets picks kept new bad-step bad-plan i =
+    Passed rule table «record» n steps sets picks kept new bad-step i
 
 abbrev μ-search : tie.MeasureT-search
-μ-search table n ranks names «record» steps idle sets₀ picks₀ kept₀ new₀ unused bad-step₀ bad-plan₀ i₀ sets picks kept new bad-step bad-plan i =
+μ-search rule table n ranks names «record» steps idle sets₀ picks₀ kept₀ new₀ unused bad-step₀ bad-plan₀ i₀ sets picks kept new bad-step bad-plan i =
     steps - i
 
 array-share-prefix-idle : tie.Need-array-share-prefix-idle Inv-loop μ-loop Inv-search μ-search
@@ -115,7 +116,7 @@ start-of c = c .before .before .before .before .before .before .before .before .
 
 here :
     (c : tie.In-search Inv-loop μ-loop Inv-search μ-search)
-    → Here (now (start-of c .args .table)) (now (start-of c .args .«record»)) (now (start-of c .args .ranks))
+    → Here (start-of c .args .rule) (now (start-of c .args .table)) (now (start-of c .args .«record»)) (now (start-of c .args .ranks))
     (now (start-of c .args .names)) (start-of c .args .n) (start-of c .args .steps) (c .before .search .i)
 here c =
     let pre = start-of c .pre in
@@ -264,7 +265,7 @@ passed :
     (c : tie.Else2 Inv-loop μ-loop Inv-search μ-search) (j : ℕ)
     → let parts = parts-of (c .before .before .before .before) in
     j < search-of parts .before .search .i + 1
-    → StepPasses (table-of parts) (now (start-of (search-of parts) .args .«record»)) j
+    → StepPasses (start-of (search-of parts) .args .rule) (table-of parts) (now (start-of (search-of parts) .args .«record»)) j
 passed c =
     let advanced = c .before .before .before .before in
     let parts = parts-of advanced in
@@ -308,18 +309,18 @@ search-again c =
     }
 
 -- the search was left at a plan that no picks explain
-record Stopped (t r : List ℕ) (step plan : ℕ) : Type 0 where
+record Stopped (rule : ℕ) (t r : List ℕ) (step plan : ℕ) : Type 0 where
   step-small : step < 65536
   plan-small : plan < 65536
-  judged : Judged t r (verdict.Refused (Unexplained step plan))
+  judged : Judged rule t r (verdict.Refused (Unexplained step plan))
 
 abbrev first-of : tie.At-search Inv-loop μ-loop Inv-search μ-search → tie.Start Inv-loop μ-loop Inv-search μ-search
 first-of c = c .before .before .before .before .before .before .before .before .before .before .before .before
 
 stopped :
     (c : tie.Left-search Inv-loop μ-loop Inv-search μ-search) → (c .search-test .bad-step ≡ 0 → ⊥)
-    → Stopped (now (first-of (c .before) .args .table)) (now (first-of (c .before) .args .«record»)) (c .search-test .bad-step)
-    (c .search-test .bad-plan)
+    → Stopped (first-of (c .before) .args .rule) (now (first-of (c .before) .args .table)) (now (first-of (c .before) .args .«record»))
+    (c .search-test .bad-step) (c .search-test .bad-plan)
 stopped c found =
     let t = now (first-of (c .before) .args .table) in
     ⊎-elim
@@ -345,12 +346,12 @@ stopped c found =
 cast-count : tie.Need-cast-count Inv-loop μ-loop Inv-search μ-search
 cast-count c =
     let pre = c .before .before .before .before .before .before .before .before .before .before .before .before .before .before .pre in
-    omega (arith, few _ _ (pre .0 .done), pre .1 .1)
+    omega (arith, few _ _ _ (pre .0 .done), pre .1 .1)
 
 returns-2 : tie.Need-returns-2 Inv-loop μ-loop Inv-search μ-search
 returns-2 c =
     let pre = c .before .before .before .before .before .before .before .before .before .before .before .before .before .before .pre in
-    ⊎-elim (λ w. all-steps _ _ _ _ (pre .0 .done) (pre .1 .1) (w .0 .left) (c .before .before .search .inv .pass))
+    ⊎-elim (λ w. all-steps _ _ _ _ _ (pre .0 .done) (pre .1 .1) (w .0 .left) (c .before .before .search .inv .pass))
     (λ w. absurd (omega (arith, w .21, c .if3 .taken)))
     (c .before .search-test .came)
 
@@ -359,7 +360,7 @@ next-fits : tie.Need-add-i Inv-loop μ-loop Inv-search μ-search
 next-fits c =
     let search = search-of (parts-of (c .before .before .before .before .before .before .before)) in
     let pre = start-of search .pre in
-    omega (arith, step-fits (here search), few _ _ (pre .0 .done), pre .1 .1)
+    omega (arith, step-fits (here search), few _ _ _ (pre .0 .done), pre .1 .1)
 
 pub check-steps-spec : {M : Type 1} → statement M
 check-steps-spec =

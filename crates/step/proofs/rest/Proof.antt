@@ -13,19 +13,19 @@ settle-requires c κs =
     let told = c .before .before .before .enum-told .given .1 in
     let facts = called .facts told in
     let done = sym (called .is) ∙ told in
-    (may-move _ _ _ _ _ _ done facts (omega (arith, facts .small)) (omega (arith, facts .small)), words-in _ _ _ done)
+    (may-move _ _ _ _ _ _ _ done facts (omega (arith, facts .small)) (omega (arith, facts .small)), words-in _ _ _ _ done)
 
 returns : tie.Need-returns
 returns c =
     let called = c .before .before .before .before .before .before .check-call .ensures in
-    run-refused _ _ _ _ _ (sym (called .is) ∙ c .before .why .given .1)
+    run-refused _ _ _ _ _ _ (sym (called .is) ∙ c .before .why .given .1)
 
 returns-2 : tie.Need-returns-2
 returns-2 c =
     let settled = c .before .before .settle .ensures in
     let told = c .before .before .before .before .before .before in
     let called = told .before .before .before .before .before .check-call .ensures in
-    run-done _ _ _ _ _ _ (sym (called .is) ∙ told .enum-told .given .1) (settled .0) (settled .1)
+    run-done _ _ _ _ _ _ _ (sym (called .is) ∙ told .enum-told .given .1) (settled .0) (settled .1)
 
 pub rest-spec : {M : Type 1} → statement M
 rest-spec =

@@ -21,20 +21,20 @@ use Rattle.step.proofs.settle.Statement.{statement}
 use Rattle.step.proofs.settle.Tie as tie
 
 -- the turns so far
-record Turned (t s w : List ℕ) (budget n k : ℕ) (states sets new : List ℕ) : Type 0 where
+record Turned (rule : ℕ) (t s w : List ℕ) (budget n k : ℕ) (states sets new : List ℕ) : Type 0 where
   sets-long : length sets ≡ 2304
   new-long : length new ≡ 256
   within : k ≤ budget
   long : length states ≡ n
-  running : Running t s w k states
+  running : Running rule t s w k states
   surveyed : Surveyed t states n sets
 
 abbrev Inv-loop : tie.InvT-loop
-Inv-loop table ranks names states₀ words budget n sets₀ picks new₀ k₀ states sets new k =
-    Turned table states₀ words budget n k states sets new
+Inv-loop rule table ranks names states₀ words budget n sets₀ picks new₀ k₀ states sets new k =
+    Turned rule table states₀ words budget n k states sets new
 
 abbrev μ-loop : tie.MeasureT-loop
-μ-loop table ranks names states₀ words budget n sets₀ picks new₀ k₀ states sets new k = budget - k
+μ-loop rule table ranks names states₀ words budget n sets₀ picks new₀ k₀ states sets new k = budget - k
 
 -- the plans are few
 few : {t s w ranks names : List ℕ} → MayMove t s w ranks names → length s ≤ 256
@@ -60,7 +60,7 @@ loop-holds c =
       new-long = search needs;
       within = omega arith;
       long = refl;
-      running = running-none _ _ _;
+      running = running-none _ _ _ _;
       surveyed = survey .0;
     }
 
@@ -75,7 +75,7 @@ moves-at :
     (c : tie.At-loop Inv-loop μ-loop)
     → MayMove (now (start-of c .args .table)) (c .loop .states) (now (start-of c .args .words)) (now (start-of c .args .ranks))
     (now (start-of c .args .names))
-moves-at c = moves-still _ _ _ _ _ (start-of c .pre .0) (start-of c .pre .1) _ _ (c .loop .inv .running)
+moves-at c = moves-still _ _ _ _ _ _ (start-of c .pre .0) (start-of c .pre .1) _ _ (c .loop .inv .running)
 
 advance-requires : tie.Need-advance-requires Inv-loop μ-loop
 advance-requires c κs =
@@ -94,9 +94,10 @@ advance-requires c κs =
 is-step :
     (c : tie.At-loop Inv-loop μ-loop) {picks x : List ℕ}
     → Taken (now (start-of c .args .words)) (length (now (start-of c .args .states))) picks
-    → x ≡ stepUnder (now (start-of c .args .table)) (c .loop .states) (now (start-of c .args .words)) (picksOf picks)
-    → x ≡ step (now (start-of c .args .table)) (c .loop .states) (now (start-of c .args .words))
-is-step c taken e = e ∙ taken-step _ _ _ _ _ (moves-at c) _ (start-of c .pre .0 .passes .long) _ taken
+    → x
+    ≡ stepUnder (start-of c .args .rule) (now (start-of c .args .table)) (c .loop .states) (now (start-of c .args .words)) (picksOf picks)
+    → x ≡ step (start-of c .args .rule) (now (start-of c .args .table)) (c .loop .states) (now (start-of c .args .words))
+is-step c taken e = e ∙ taken-step _ _ _ _ _ (moves-at c) _ (start-of c .pre .0 .passes .long) _ taken _
 
 -- the test for a change, as the code has it
 tested :
@@ -110,7 +111,7 @@ returns c =
     let at = advanced .before .before .before .before .before in
     let inv = at .loop .inv in
     let next = is-step at (taken-of at .take-picks .ensures .0) (advanced .advance .ensures .0) in
-    rests _ _ _ _ _ (inv .running) _ (inv .within)
+    rests _ _ _ _ _ _ (inv .running) _ (inv .within)
     (tested _ _ _ _ _ (inv .long) next (c .before .unchanged .ensures) ∙ c .if1 .taken)
 
 returns-2 : tie.Need-returns-2 Inv-loop μ-loop
@@ -120,7 +121,7 @@ returns-2 c =
     let at = advanced .before .before .before .before .before in
     let inv = at .loop .inv in
     let next = is-step at (taken-of at .take-picks .ensures .0) (advanced .advance .ensures .0) in
-    moves _ _ _ _ _ (inv .running) _ (c .if2 .taken)
+    moves _ _ _ _ _ _ (inv .running) _ (c .if2 .taken)
     (tested _ _ _ _ _ (inv .long) next (changed .before .unchanged .ensures) ∙ changed .if1 .left)
 
 resurvey-requires : tie.Need-resurvey-requires Inv-loop μ-loop
@@ -132,12 +133,12 @@ resurvey-requires c κs =
     let first = start-of at .pre .0 in
     let next = is-step at (taken-of at .take-picks .ensures .0) (advanced .advance .ensures .0) in
     let moved =
-    running-next _ _ _ _ _ (inv .running) _
+    running-next _ _ _ _ _ _ (inv .running) _
     (tested _ _ _ _ _ (inv .long) next (changed .before .unchanged .ensures) ∙ changed .if1 .left)
     next
     in
-    may-resurvey _ _ _ _ _ (moves-at at) _ (moves-still _ _ _ _ _ first (start-of at .pre .1) _ _ moved) _ (first .passes .long) _ (inv .surveyed)
-    (omega (arith, few first, inv .sets-long))
+    may-resurvey _ _ _ _ _ (moves-at at) _ (moves-still _ _ _ _ _ _ first (start-of at .pre .1) _ _ moved) _ (first .passes .long) _
+    (inv .surveyed) (omega (arith, few first, inv .sets-long))
 
 loop-again : tie.Need-loop-again Inv-loop μ-loop
 loop-again c =
@@ -155,7 +156,7 @@ loop-again c =
       within = omega (arith, inv .within, going .if2 .left);
       long = ap length taken-over ∙ length-take-le _ _ (omega (arith, inv .long, inv .new-long, few (start-of at .pre .0))) ∙ inv .long;
       running =
-          running-next _ _ _ _ _ (inv .running) _
+          running-next _ _ _ _ _ _ (inv .running) _
           (tested _ _ _ _ _ (inv .long) next (changed .before .unchanged .ensures) ∙ changed .if1 .left)
           (taken-over ∙ rw (inv .long) next);
       surveyed = surveyed-part _ _ _ _ _ _ (inv .long) taken-over (resurvey .0);

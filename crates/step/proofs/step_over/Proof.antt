@@ -40,6 +40,12 @@ advance-requires c κs =
       (known-names _ _ _ _ _ moves _ whole, (whole, room .new-room, omega (arith, moves .words, whole))),
     )
 
+take-over-requires : tie.Need-take-over-requires
+take-over-requires c κs =
+    let advanced = c .before .before .before .before in
+    let room = start-of (advanced .before .before .before .before .before .before .before .before .before .before .before) .pre .1 in
+    omega (arith, room .new-room, advanced .advance .ensures .1 .long)
+
 returns : tie.Need-returns
 returns c =
     let advanced = c .before .before .before .before .before .before .before in
@@ -47,7 +53,7 @@ returns c =
     let moves = start-of (taken .before .before .before .before) .pre .0 in
     c .before .before .take-over .ensures
     ∙ advanced .advance .ensures .0
-    ∙ taken-step _ _ _ _ _ moves _ (moves .passes .long) _ (taken .take-picks .ensures .0)
+    ∙ taken-step _ _ _ _ _ moves _ (moves .passes .long) _ (taken .take-picks .ensures .0) _
 
 pub step-over-spec : {M : Type 1} → statement M
 step-over-spec =
@@ -56,7 +62,7 @@ step-over-spec =
     survey-requires
     take-picks-requires
     advance-requires
-    (λ c κs. search needs)
+    take-over-requires
     (λ c. search needs)
     (λ c. search needs)
     (λ c. search needs)

@@ -23,7 +23,7 @@ step-over-requires c κs =
     let long = facts .long in
     let small = facts .small in
     let moves =
-    may-move _ _ _ _ _ _ (sym (called .is) ∙ done) facts (omega (arith, facts-room .ranks-room _ long small))
+    may-move _ _ _ _ _ _ _ (sym (called .is) ∙ done) facts (omega (arith, facts-room .ranks-room _ long small))
     (omega (arith, facts-room .names-room _ long small)) in
     let whole = moves .passes .long in
     let sets-room = step-room .sets-room _ long small in (
@@ -40,7 +40,7 @@ returns : tie.Need-returns
 returns c =
     let checked = c .before .before .before .before .before .before .before .before .before in
     let refused = sym (checked .check-call .ensures .is) ∙ c .before .why .given .1 in
-    (sym refused, step-leaves _ _ _ _ refused)
+    (sym refused, step-leaves _ _ _ _ _ refused)
 
 returns-2 : tie.Need-returns-2
 returns-2 c =
@@ -48,7 +48,7 @@ returns-2 c =
     let told = stepped .before .before .before .before .before .before .before in
     let checked = told .before .before .before .before .before .before .before .before in
     let done = sym (checked .check-call .ensures .is) ∙ told .enum-told .given .1 in
-    (sym done, step-steps _ _ _ _ done (stepped .step-over .ensures))
+    (sym done, step-steps _ _ _ _ _ done (stepped .step-over .ensures))
 
 pub step-within-spec : {M : Type 1} → statement M
 step-within-spec =

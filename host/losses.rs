@@ -1,0 +1,226 @@
+//! What a comparison must reach of the two rules on lost children, and of the refusal of any other rule number, 17. As in turns.rs each is
+//! a line of words with a count, and what is wanted is listed apart from the counting.
+
+use crate::cases::{self, Call, Kind, RULES, WRONG_RULES};
+use crate::reference::{self, Before, Plan, Rule};
+use crate::turns::Lines;
+
+// ------------------------------------------------------------------------------------------------
+// Moves
+// ------------------------------------------------------------------------------------------------
+
+/// What wait-for says of a plan that has an Aborted child, which is a named one unless wait-for fails for Rejected ones.
+#[derive(Clone, Copy, PartialEq)]
+enum WaitFor {
+    /// Holds even of the children that are neither Rejected nor Aborted.
+    Holds,
+    /// Fails of these, and holds of those that are not Rejected.
+    FailsForAborted,
+    /// Fails of those too.
+    FailsForRejected,
+}
+
+/// What becomes of a plan.
+const ABORTED: &str = "is Aborted";
+const NOT_ABORTED: &str = "is not Aborted";
+const RETRIES: &str = "stays and retries them";
+const WITH_PARENT: &str = "is Suspended with its parent";
+const BY_ITSELF: &str = "is Suspended by its own suspend";
+const UNDER_PARENT: &str = "stays under a Suspended parent";
+const NOT_REACTIVATED: &str = "stays, for reactivate does not hold";
+const REACTIVATED: &str = "is reactivated";
+const OTHERWISE: &str = "does what no rule says";
+
+fn number_of(rule: Rule) -> u32 {
+    RULES[usize::from(rule == Rule::New)].0
+}
+
+fn from(old: u8) -> &'static str {
+    if old == reference::ACTIVATED {
+        "Activated"
+    } else {
+        "Suspended"
+    }
+}
+
+/// A move that only one of the rules gives: of a plan with retry-aborted.
+fn apart(rule: Rule, body: u8, old: u8, what: &str) -> String {
+    format!("rule {}, body {body}, {}, wait-for fails for Aborted children only: {what}", number_of(rule), from(old))
+}
+
+/// A move that both rules give.
+fn alike(rule: Rule, retries: bool, wait_for: WaitFor, old: u8, what: &str) -> String {
+    let retries = if retries { "with" } else { "without" };
+    let wait_for = match wait_for {
+        WaitFor::Holds => "holds",
+        WaitFor::FailsForAborted => "fails for Aborted children only",
+        WaitFor::FailsForRejected => "fails for Rejected children",
+    };
+    format!("rule {}, {retries} retry-aborted, {}, wait-for {wait_for}: {what}", number_of(rule), from(old))
+}
+
+/// All moves that only one of the rules gives. Under rule 2 such a plan is never Completed: its Completed children are among those that
+/// are neither Rejected nor Aborted, of which wait-for fails.
+pub fn wanted_apart() -> Vec<String> {
+    let mut lines = Vec::new();
+    for body in [reference::SEQUENTIAL, reference::PARALLEL, reference::ANY_ORDER, reference::UNORDERED] {
+        for old in [reference::ACTIVATED, reference::SUSPENDED] {
+            lines.push(apart(Rule::Old, body, old, ABORTED));
+        }
+        for what in [RETRIES, WITH_PARENT, BY_ITSELF] {
+            lines.push(apart(Rule::New, body, reference::ACTIVATED, what));
+        }
+        for what in [UNDER_PARENT, NOT_REACTIVATED, REACTIVATED] {
+            lines.push(apart(Rule::New, body, reference::SUSPENDED, what));
+        }
+    }
+    lines
+}
+
+/// What both rules give though there is an Aborted child.
+pub fn wanted_alike() -> Vec<String> {
+    let mut lines = Vec::new();
+    for (_, rule) in RULES {
+        for old in [reference::ACTIVATED, reference::SUSPENDED] {
+            lines.push(alike(rule, false, WaitFor::FailsForAborted, old, ABORTED));
+            for retries in [false, true] {
+                lines.push(alike(rule, retries, WaitFor::Holds, old, NOT_ABORTED));
+                lines.push(alike(rule, retries, WaitFor::FailsForRejected, old, ABORTED));
+            }
+        }
+    }
+    lines
+}
+
+/// The moves of one step: of plans in execution, under a parent in execution, that have an Aborted child and whose own abort does not hold.
+/// All other moves have nothing to do with the rule.
+pub fn count_moves(lines: &mut [Lines; 2], before: &Before, new: &[u8]) {
+    for (p, plan) in before.plans.iter().enumerate() {
+        let old = before.states[p];
+        let parent_new = plan.parent.map_or(reference::ACTIVATED, |parent| new[parent]);
+        if !reference::in_execution(old) || !reference::in_execution(parent_new) {
+            continue;
+        }
+        let Some(wait_for) = wait_for(before, plan) else { continue };
+        if reference::condition_holds(plan, before.words[p], reference::ABORT) {
+            continue;
+        }
+        let retries = plan.flags >> reference::RETRY_ABORTED & 1 == 1;
+        let [lines_apart, lines_alike] = lines;
+        if retries && wait_for == WaitFor::FailsForAborted {
+            lines_apart.count(apart(before.rule, plan.body, old, what_became(before, p, parent_new, new)));
+        } else {
+            let what = if new[p] == reference::ABORTED { ABORTED } else { NOT_ABORTED };
+            lines_alike.count(alike(before.rule, retries, wait_for, old, what));
+        }
+    }
+}
+
+/// None without such a child.
+fn wait_for(before: &Before, plan: &Plan) -> Option<WaitFor> {
+    let is_named = |child: usize| before.plans[child].flags >> reference::NAMED & 1 == 1;
+    let (mut aborted, mut named_aborted, mut not_rejected) = (0, 0, 0);
+    for &child in &plan.children {
+        let (state, named) = (before.states[child], usize::from(is_named(child)));
+        aborted += usize::from(state == reference::ABORTED);
+        named_aborted += usize::from(state == reference::ABORTED) * named;
+        not_rejected += usize::from(state != reference::REJECTED) * named;
+    }
+    let needed = usize::from(plan.wait_number);
+    match (aborted, named_aborted) {
+        (0, _) => None,
+        _ if not_rejected < needed => Some(WaitFor::FailsForRejected),
+        (_, 0) => None,
+        _ if not_rejected - named_aborted < needed => Some(WaitFor::FailsForAborted),
+        _ => Some(WaitFor::Holds),
+    }
+}
+
+fn what_became(before: &Before, p: usize, parent_new: u8, new: &[u8]) -> &'static str {
+    let mut children = before.plans[p].children.iter();
+    let mut all_are_retried = || children.all(|&c| before.states[c] != reference::ABORTED || new[c] == reference::CONSIDERED);
+    match (before.states[p], new[p]) {
+        (_, reference::ABORTED) => ABORTED,
+        (reference::ACTIVATED, reference::ACTIVATED) if all_are_retried() => RETRIES,
+        (reference::ACTIVATED, reference::SUSPENDED) if parent_new == reference::SUSPENDED => WITH_PARENT,
+        (reference::ACTIVATED, reference::SUSPENDED) => BY_ITSELF,
+        (reference::SUSPENDED, reference::SUSPENDED) if parent_new == reference::SUSPENDED => UNDER_PARENT,
+        (reference::SUSPENDED, reference::SUSPENDED) => NOT_REACTIVATED,
+        (reference::SUSPENDED, reference::ACTIVATED) => REACTIVATED,
+        _ => OTHERWISE,
+    }
+}
+
+// ------------------------------------------------------------------------------------------------
+// Whole runs and records
+// ------------------------------------------------------------------------------------------------
+
+fn run(rule: u32) -> String {
+    format!("a run by rule {rule} that goes otherwise by the other")
+}
+
+fn verdict(asked: u32, numbers: [u64; 2]) -> String {
+    let told = numbers.map(|number| if number == 0 { "accepted".to_string() } else { format!("refused with {number}") });
+    format!("a record asked by rule {asked}: by rule 1 {}, by rule 2 {}", told[0], told[1])
+}
+
+/// Records asked by a rule that one rule accepts and the other does not.
+pub fn wanted_verdicts(rule: u32) -> Vec<String> {
+    vec![verdict(rule, [0, 15]), verdict(rule, [15, 0])]
+}
+
+/// These, and runs that go otherwise by the other rule.
+pub fn wanted_answers() -> Vec<String> {
+    let of_rule = |(rule, _): (u32, Rule)| wanted_verdicts(rule).into_iter().chain([run(rule)]);
+    RULES.into_iter().flat_map(of_rule).collect()
+}
+
+/// A run or a check with a good rule and table, if the rules answer it differently.
+pub fn count_answers(lines: &mut Lines, call: &Call, plans: &[Plan]) {
+    if plans.iter().any(cases::may_part_the_rules) {
+        match call.kind {
+            Kind::Step => {}
+            Kind::Rest if call.by(1).ask_reference() == call.by(2).ask_reference() => {}
+            Kind::Rest => lines.count(run(call.rule)),
+            Kind::Check => count_verdicts(lines, call),
+        }
+    }
+}
+
+/// A check, if one rule accepts and the other does not.
+pub fn count_verdicts(lines: &mut Lines, call: &Call) {
+    let numbers = [1, 2].map(|rule| call.by(rule).ask_reference().0 & 0xFFFF);
+    if numbers[0] != numbers[1] && numbers.contains(&0) {
+        lines.count(verdict(call.rule, numbers));
+    }
+}
+
+// ------------------------------------------------------------------------------------------------
+// Other rule numbers
+// ------------------------------------------------------------------------------------------------
+
+const KINDS: [Kind; 3] = [Kind::Step, Kind::Rest, Kind::Check];
+
+fn wrong_number(kind: Kind, rule: u32) -> String {
+    let rule = if WRONG_RULES.contains(&rule) { rule.to_string() } else { "another".to_string() };
+    format!("17 of a {kind:?} by rule {rule}")
+}
+
+fn instead(kind: Kind, number: u64) -> String {
+    format!("17 of a {kind:?} that a rule would answer with {number}")
+}
+
+/// Each wrong number, and 17 in place of each other number, of each call.
+pub fn wanted_of_numbers() -> Vec<String> {
+    let of_kind = |kind: Kind| {
+        let wrong = WRONG_RULES.into_iter().chain([u32::MAX - 1]).map(move |rule| wrong_number(kind, rule));
+        wrong.chain(cases::numbers_of(kind).into_iter().map(move |number| instead(kind, number)))
+    };
+    KINDS.into_iter().flat_map(of_kind).collect()
+}
+
+/// A call that was answered with 17.
+pub fn count_wrong_number(lines: &mut Lines, call: &Call) {
+    lines.count(wrong_number(call.kind, call.rule));
+    lines.count(instead(call.kind, call.by(2).ask_reference().0 & 0xFFFF));
+}
