@@ -1,10 +1,8 @@
 -- How long an input's table is, case by case, and what the verdict on its two parts answers. Assumes nothing.
 use Prim.Native.Nat.{ℕ, _+_, _*_, _-_, _≤_, _<_}
-use native.Mathlib.Omega.{arith}
 use mathlib.Core.Path.{_≡_}
 use mathlib.Core.List.{List}
-use lib.ListN.{length, take, drop, length-drop}
-use lib.Seq.{take-all}
+use lib.ListN.{length, take, drop}
 use borrow.Author.Tests.{le-leb, lt-leb}
 use Rattle.rules.specs.Table.{planCount}
 use Rattle.rules.specs.Answers.{headerCheck, Judged}
@@ -12,6 +10,7 @@ use Rattle.rules.specs.Program.{tableLength, Answered, judged}
 use Rattle.rules.specs.declared.Refusal.{Refusal}
 use Rattle.rules.specs.declared.Verdict.{Verdict}
 use Rattle.rules.specs.declared.Outcome.the-variants.{Done, Refused}
+use Rattle.text.proofs.Texts.{to-end}
 
 module _ (input : List ℕ) where
   pub all-of-refused : (why : Refusal) → headerCheck input ≡ Refused why → tableLength input ≡ length input
@@ -27,13 +26,9 @@ module _ (input : List ℕ) where
     unfolding tableLength
     all-of-short l = simp (done, lt-leb _ _ l)
 
-  -- a part up to the end is all that is left
-  rest : (k : ℕ) → take (length input - k) (drop k input) ≡ drop k input
-  rest k = take-all (length input - k) (drop k input) (omega (arith, length-drop k input))
-
   -- the verdict on the two parts, as the code cuts them
   pub answers :
       {v : Verdict} (k : ℕ) → k ≡ tableLength input → length input ≤ 65536
       → Judged 2 (take k input) (take (length input - k) (drop k input)) v
       → Answered input v
-  answers k e l j = judged l (rw (rest k, e) at j)
+  answers k e l j = judged l (rw (to-end input k, e) at j)

@@ -1,5 +1,3 @@
 -- Laws for the proofs of this crate, and that its answer is one.
 pub mod Inputs
-pub mod Decimals
-pub mod Texts
 pub mod Unique

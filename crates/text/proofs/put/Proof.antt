@@ -7,8 +7,8 @@ use native.Mathlib.Omega.{arith}
 use denote.Ref.{now}
 use lib.ListN.{length, take, getD, set, length-set}
 use lib.Seq.{paste, paste-zero, paste-suc, take-paste, take-all}
-use Rattle.aprcheck.proofs.put.Statement.{statement}
-use Rattle.aprcheck.proofs.put.Tie as tie
+use Rattle.text.proofs.put.Statement.{statement}
+use Rattle.text.proofs.put.Tie as tie
 
 abbrev Inv-loop : tie.InvT-loop
 Inv-loop text out₀ at i₀ out i = (i ≤ length text) × (length out ≡ length out₀) × (out ≡ paste out₀ at text i)

@@ -10,11 +10,11 @@ use mir.Syntax.{w64}
 use mir.Val.{toZ, ofZ}
 use denote.Ref.{now}
 use borrow.Author.Needs.{needs}
-use Rattle.aprcheck.specs.Came.{came, MayCome}
-use Rattle.aprcheck.specs.declared.Got.{Got}
-use Rattle.aprcheck.specs.declared.Got.the-variants.{Ended, Bytes}
-use Rattle.aprcheck.proofs.read_some.Statement.{statement}
-use Rattle.aprcheck.proofs.read_some.Tie as tie
+use Rattle.text.specs.Came.{came, MayCome}
+use Rattle.text.specs.declared.Got.{Got}
+use Rattle.text.specs.declared.Got.the-variants.{Ended, Bytes}
+use Rattle.text.proofs.read_some.Statement.{statement}
+use Rattle.text.proofs.read_some.Tie as tie
 
 may-come : (z : ℤ) (room : ℕ) → MayCome room (came z room)
 may-come (pos k) room = counted (min k room) (omega arith)

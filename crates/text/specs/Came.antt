@@ -5,10 +5,10 @@ use mathlib.Core.List.{List}
 use lib.Dec.{eqb}
 use lib.IntN.{ℤ, pos, negsuc}
 use Rattle.io.specs.Counts.{Counts}
-use Rattle.aprcheck.specs.declared.Got.{Got}
-use Rattle.aprcheck.specs.declared.Got.the-variants.{Failed, Ended, Bytes}
-use Rattle.aprcheck.specs.declared.Input.{Input}
-use Rattle.aprcheck.specs.declared.Input.the-variants.{Broken, Whole}
+use Rattle.text.specs.declared.Got.{Got}
+use Rattle.text.specs.declared.Got.the-variants.{Failed, Ended, Bytes}
+use Rattle.text.specs.declared.Input.{Input}
+use Rattle.text.specs.declared.Input.the-variants.{Broken, Whole}
 
 -- what the system's answer to a read into so much room means: a negative one is a failure, 0 the end of the input
 abbrev pub came : ℤ → ℕ → Got

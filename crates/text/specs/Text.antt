@@ -1,5 +1,5 @@
 -- Text that is put together piece by piece in a slice. Assumes nothing.
-use Prim.Native.Nat.{ℕ, _+_}
+use Prim.Native.Nat.{ℕ, _+_, _≤_}
 use mathlib.Core.Path.{_≡_}
 use mathlib.Core.List.{List, _++_}
 use lib.ListN.{length, take}
@@ -8,3 +8,7 @@ use lib.ListN.{length, take}
 pub record Appended (before : List ℕ) (at : ℕ) (piece after : List ℕ) (end : ℕ) : Type 0 where
   pub place : end ≡ at + length piece
   pub bytes : take end after ≡ take at before ++ piece
+
+-- a piece of at most so many bytes is put there
+abbrev pub Put : ℕ → List ℕ → ℕ → List ℕ → List ℕ → ℕ → Type 0
+Put most before at piece after end = (end ≤ at + most) × Appended before at piece after end

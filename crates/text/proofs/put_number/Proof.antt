@@ -1,9 +1,9 @@
 -- `put_number` meets its contract: one byte behind the decimal. Assumes nothing.
 use native.Mathlib.Omega.{arith}
 use borrow.Author.Needs.{needs}
-use Rattle.aprcheck.proofs.Texts.{and-byte}
-use Rattle.aprcheck.proofs.put_number.Statement.{statement}
-use Rattle.aprcheck.proofs.put_number.Tie as tie
+use Rattle.text.proofs.Texts.{and-byte}
+use Rattle.text.proofs.put_number.Statement.{statement}
+use Rattle.text.proofs.put_number.Tie as tie
 
 returns : tie.Need-returns
 returns c = (omega arith, and-byte (c .before .before .put-decimal .ensures .1) _ (omega arith))

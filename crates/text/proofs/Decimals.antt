@@ -37,9 +37,9 @@ pub spells : (k x : ℕ) → Fewest 10 1 x k → digits 10 k x ≡ decimal x
 spells zero x f = absurd (omega (arith, f .0))
 spells (suc k) x f = spelled x k x (omega arith) (f .1) (λ h. simp unary-clauses at (f .2 (omega arith)))
 
--- a 16-bit number has at most five
-pub few : (k x : ℕ) → x < 65536 → Fewest 10 1 x k → k ≤ 5
+-- a 64-bit number has at most twenty
+pub few : (k x : ℕ) → x < 2 ^ 64 → Fewest 10 1 x k → k ≤ 20
 few k x l f =
     ⊎-elim (λ e. omega arith)
-    (λ h. absurd (omega (arith, f .2 (omega arith), pow-le-pow-right {n = 10} (omega arith) {i = 5} {j = k - 1} (omega arith))))
-    (eq-zero-or-pos (k - 5))
+    (λ h. absurd (omega (arith, f .2 (omega arith), pow-le-pow-right {n = 10} (omega arith) {i = 20} {j = k - 1} (omega arith))))
+    (eq-zero-or-pos (k - 20))

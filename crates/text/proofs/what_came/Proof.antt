@@ -13,10 +13,10 @@ use mir.Facts.{toZ-ofZ}
 use denote.Ref.{now}
 use borrow.Author.Needs.{needs}
 use Rattle.io.specs.Counts.{clamped}
-use Rattle.aprcheck.specs.Came.{came}
-use Rattle.aprcheck.specs.declared.Got.the-variants.{Failed, Ended, Bytes}
-use Rattle.aprcheck.proofs.what_came.Statement.{statement}
-use Rattle.aprcheck.proofs.what_came.Tie as tie
+use Rattle.text.specs.Came.{came}
+use Rattle.text.specs.declared.Got.the-variants.{Failed, Ended, Bytes}
+use Rattle.text.proofs.what_came.Statement.{statement}
+use Rattle.text.proofs.what_came.Tie as tie
 
 negative : (z : ℤ) (room : ℕ) → ltZ z (pos 0) ≡ true → Failed ≡ came z room
 negative (pos k) room e = absurd (omega (arith, ltb→lt k 0 (rw e tt)))

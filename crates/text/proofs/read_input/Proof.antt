@@ -7,10 +7,10 @@ use lib.ListN.{length, take, drop, length-drop}
 use lib.Seq.{length-take-le}
 use borrow.Rule.Slice.PartMut.{putMid}
 use borrow.Author.Needs.{needs}
-use Rattle.aprcheck.specs.Came.{MayCome}
-use Rattle.aprcheck.specs.declared.Got.{Got}
-use Rattle.aprcheck.proofs.read_input.Statement.{statement}
-use Rattle.aprcheck.proofs.read_input.Tie as tie
+use Rattle.text.specs.Came.{MayCome}
+use Rattle.text.specs.declared.Got.{Got}
+use Rattle.text.proofs.read_input.Statement.{statement}
+use Rattle.text.proofs.read_input.Tie as tie
 
 abbrev Inv-loop : tie.InvT-loop
 Inv-loop buffer₀ n₀ buffer n = (n ≤ length buffer) × (length buffer ≡ length buffer₀)

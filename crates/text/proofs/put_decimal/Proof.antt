@@ -2,9 +2,9 @@
 use mathlib.Core.Path.{_∙_}
 use native.Mathlib.Omega.{arith}
 use borrow.Author.Needs.{needs}
-use Rattle.aprcheck.proofs.Decimals.{spells, few}
-use Rattle.aprcheck.proofs.put_decimal.Statement.{statement}
-use Rattle.aprcheck.proofs.put_decimal.Tie as tie
+use Rattle.text.proofs.Decimals.{spells, few}
+use Rattle.text.proofs.put_decimal.Statement.{statement}
+use Rattle.text.proofs.put_decimal.Tie as tie
 
 put-requires : tie.Need-put-requires
 put-requires c κs =
