@@ -1,12 +1,14 @@
 /*
  * Times asbru_check and asbru_step beside host/plain.c, a tuned C implementation without proofs, on the same tables and accepted
  * records in one run, and prints for each number of plans the nanoseconds for a plan and step, the record's bytes a second, and the
- * ratio of the two. The two take turns, and the best of several turns counts. All go by rule 2.
+ * ratio of the two. The two take turns, and the best of several turns counts. All go by rule 2. Then, behind an empty line, asbru_pattern
+ * beside host/plain_held.c in the same way, with the nanoseconds for a sample.
  *
  *   bench [MOST STEPS]
  *
  * host/places compiles it with -DWITHOUT_RULE for an archive of ASBRU_VERSION 1 or 2, whose functions take no rule. Such an archive knows
- * rule 1 only, and here the two agree: no plan is named, and all wait numbers are 0.
+ * rule 1 only, and here the two agree: no plan is named, and all wait numbers are 0. For one without asbru_pattern, of a version before 4,
+ * it compiles it with -DWITHOUT_PATTERN.
  */
 #define _POSIX_C_SOURCE 199309L
 #include <stdio.h>
@@ -17,7 +19,7 @@
 #include "asbru.h"
 #include "plain.h"
 
-enum { TURNS = 25, MOST_PLANS = 256 };
+enum { TURNS = 25, MOST_PLANS = 256, HISTORIES = 64 };
 
 static uint64_t seed = 88172645463325252ull;
 
@@ -152,6 +154,45 @@ static void measure(unsigned n, unsigned steps) {
     free(record);
 }
 
+typedef uint64_t Pattern(const int64_t *, const int64_t *, size_t, int64_t);
+
+#ifndef WITHOUT_PATTERN
+/* One call for each history, asked an hour after its last sample. */
+static double time_pattern(Pattern *pattern, int64_t samples[HISTORIES][ASBRU_MOST_SAMPLES]) {
+    /* every bound is there; no run is long enough, but one that goes on could be */
+    static const int64_t annotation[ASBRU_BOUNDS] = {-500000, 500000, -500000, 900000, 100000, 800000, 1000};
+    double begun = nanoseconds();
+    for (unsigned i = 0; i < HISTORIES; i++) {
+        int64_t asked = samples[i][ASBRU_MOST_SAMPLES - 1] / 2 + 60;
+        uint64_t answer = pattern(annotation, samples[i], ASBRU_MOST_SAMPLES, asked);
+        need(answer == (uint64_t)ASBRU_IS_SATISFIABLE << 16, "a history is not satisfiable only");
+    }
+    return nanoseconds() - begun;
+}
+
+/*
+ * Samples a minute to an hour apart. Their truth is by chance, in many histories, so that a processor cannot foresee it, and errs for the
+ * library as for plain C; or two are true and two are not, in turn, which it foresees.
+ */
+static void measure_pattern(int by_chance) {
+    static int64_t samples[HISTORIES][ASBRU_MOST_SAMPLES];
+    for (unsigned i = 0; i < HISTORIES; i++) {
+        int64_t minute = 0;
+        for (unsigned k = 0; k < ASBRU_MOST_SAMPLES; k++) {
+            minute += 1 + below(60);
+            samples[i][k] = asbru_sample(minute, (int)(by_chance ? below(2) : k >> 1 & 1));
+        }
+    }
+    double pattern = 1e18, plain = 1e18, all = (double)HISTORIES * ASBRU_MOST_SAMPLES;
+    for (int turn = 0; turn < TURNS; turn++) {
+        pattern = least(pattern, time_pattern(asbru_pattern, samples));
+        plain = least(plain, time_pattern(plain_pattern, samples));
+    }
+    const char *truth = by_chance ? "by chance" : "two and two";
+    printf("| %d | %s | %.2f | %.2f | %.2f |\n", ASBRU_MOST_SAMPLES, truth, pattern / all, plain / all, pattern / plain);
+}
+#endif
+
 int main(int argc, char **argv) {
     unsigned most = argc > 1 ? (unsigned)atoi(argv[1]) : 65535;
     static const unsigned plans[] = {3, 16, 64, 256};
@@ -159,5 +200,10 @@ int main(int argc, char **argv) {
     printf("| plans | steps | check, ns | plain C | ratio | check, MB/s | step, ns | plain C | ratio |\n");
     printf("|---|---|---|---|---|---|---|---|---|\n");
     for (int k = 0; k < 4; k++) measure(plans[k], most);
+#ifndef WITHOUT_PATTERN
+    printf("\n| samples | true | pattern, ns | plain C | ratio |\n|---|---|---|---|---|\n");
+    measure_pattern(1);
+    measure_pattern(0);
+#endif
     return 0;
 }

@@ -3,7 +3,7 @@
 //!     differ CHILD [ARGS..] --seed S --calls N [--reach-from N] [--patience SECONDS]
 //!
 //! starts CHILD with ARGS, writes requests to its standard input and reads answers from its
-//! standard output. All numbers are little-endian.
+//! standard output, as talk.rs tells. All numbers are little-endian.
 //!
 //!     request: u8 kind (1 step, 2 rest, 3 check); u32 rule; u32 length of the table, u32 of the
 //!              states (0 for a check), u32 of the words (for a check: of the record); u16 budget (0
@@ -11,32 +11,32 @@
 //!     answer:  u64; the states, as many bytes as were sent; u8, 1 when the guard bytes around all
 //!              buffers of the child are intact
 //!
-//! Requests come in batches, so the child must send its answers before it waits for the next
-//! request. It ends when its standard input does.
-//!
 //! Status 0: N calls were made without a difference and without a move that the rules do not allow,
 //! and, from `REACH_FROM` calls on or as many as `--reach-from` says, they reached every answer number
 //! of the library's, every move of a plan that the rules allow, and all that turns.rs wants of the bodies
 //! 5 to 8 and losses.rs of the two rules. Status 1: anything else.
 
 mod cases;
+mod dice;
 mod losses;
 mod reference;
 #[cfg(test)]
 mod self_test;
+mod talk;
+mod tally;
 mod turns;
 
-use cases::{hex, Call, Kind, Maker};
+use cases::{Call, Kind, Maker};
+use dice::hex;
 use reference::Rule;
-use std::io::{self, BufReader, Read, Write};
-use std::process::{Child, ChildStdin, ChildStdout, Command, ExitCode, Stdio};
-use std::sync::mpsc::{self, RecvTimeoutError};
-use std::time::{Duration, Instant};
-use turns::Lines;
+use std::process::ExitCode;
+use talk::{number_of, Options};
+use tally::Lines;
+
+type Asked = talk::Asked<Call>;
 
 fn main() -> ExitCode {
-    let result = Options::from_arguments().and_then(|options| run(&options));
-    match result {
+    match run() {
         Ok(()) => ExitCode::SUCCESS,
         Err(message) => {
             println!("{message}");
@@ -45,234 +45,32 @@ fn main() -> ExitCode {
     }
 }
 
-// ------------------------------------------------------------------------------------------------
-// Command line
-// ------------------------------------------------------------------------------------------------
-
-/// From so many calls on a run is held to what it must reach. A shorter one may well miss a rare move,
-/// and that says nothing about the child.
+/// From so many calls on a run is held to what it must reach.
 const REACH_FROM: u64 = 200_000;
 
-struct Options {
-    /// The child's program and its arguments.
-    child: Vec<String>,
-    seed: u64,
-    calls: u64,
-    /// `REACH_FROM`, or less for a shorter run whose seed is known to reach everything.
-    reach_from: u64,
-    /// How long a batch may take before the child is taken to hang.
-    patience: Duration,
-}
-
-impl Options {
-    /// `--seed`, `--calls`, `--reach-from` and `--patience` are the tester's; everything else is the
-    /// child's.
-    fn from_arguments() -> Result<Options, String> {
-        let usage = "usage: differ CHILD [ARGS..] --seed S --calls N [--reach-from N] [--patience SECONDS]";
-        let patience = Duration::from_secs(120);
-        let mut options =
-            Options { child: Vec::new(), seed: 1, calls: REACH_FROM, reach_from: REACH_FROM, patience };
-        let mut arguments = std::env::args().skip(1);
-        while let Some(argument) = arguments.next() {
-            let mut number = || arguments.next().and_then(|text| text.parse().ok()).ok_or(usage);
-            match argument.as_str() {
-                "--seed" => options.seed = number()?,
-                "--calls" => options.calls = number()?,
-                "--reach-from" => options.reach_from = number()?,
-                "--patience" => options.patience = Duration::from_secs(number()?),
-                _ => options.child.push(argument),
-            }
-        }
-        if options.child.is_empty() {
-            return Err(usage.to_string());
-        }
-        Ok(options)
-    }
-}
-
-// ------------------------------------------------------------------------------------------------
-// The run
-// ------------------------------------------------------------------------------------------------
-
-/// A call, its number (from 1) and what the reference says to it.
-struct Asked {
-    number: u64,
-    call: Call,
-    answer: u64,
-    states: Vec<u8>,
-}
-
-/// What the child says to a call.
-struct Reply {
-    answer: u64,
-    states: Vec<u8>,
-    guards: u8,
-}
-
-/// A batch ends at this many calls or bytes, whichever comes first.
-const BATCH_CALLS: usize = 256;
-const BATCH_BYTES: usize = 1 << 20;
-
-fn run(options: &Options) -> Result<(), String> {
-    let start = Instant::now();
+fn run() -> Result<(), String> {
+    let options = Options::from_arguments("differ", REACH_FROM)?;
     let mut maker = Maker::new(options.seed);
     let mut counts = Counts::default();
-    let mut child = Talk::start(&options.child)?;
-    while counts.calls() < options.calls {
-        let batch = next_batch(&mut maker, counts.calls(), options.calls);
-        let replies = child.exchange(&batch, options.patience);
-        for (asked, reply) in batch.iter().zip(&replies) {
-            if let Some(difference) = difference(asked, reply) {
-                return Err(report(options.seed, asked, &difference));
-            }
-            counts.add(asked);
-        }
-        if replies.len() < batch.len() {
-            return Err(find_the_call_that_stops_the_child(options, &batch[replies.len()..]));
-        }
-    }
-    child.finish()?;
-    println!(
-        "seed {}: {} calls, no difference, {:.1} s",
-        options.seed,
-        counts.calls(),
-        start.elapsed().as_secs_f64()
-    );
-    counts.print();
-    counts.nothing_impossible()?;
-    if counts.calls() < options.reach_from {
-        println!("what must be reached is asked for from {} calls on", options.reach_from);
-        return Ok(());
-    }
-    counts.all_reached()
-}
-
-/// The next calls with the reference's answers. The situations in the pool go on from these.
-fn next_batch(maker: &mut Maker, made: u64, wanted: u64) -> Vec<Asked> {
-    let mut batch: Vec<Asked> = Vec::new();
-    let mut bytes = 0;
-    while batch.len() < BATCH_CALLS && bytes < BATCH_BYTES && made + (batch.len() as u64) < wanted {
+    // the situations in the pool go on from the reference's answers
+    let next = || {
         let call = maker.next_call();
         let (answer, states) = call.ask_reference();
         maker.go_on(&call, &states);
-        bytes += call.table.len() + call.states.len() + call.words.len();
-        batch.push(Asked { number: made + batch.len() as u64 + 1, call, answer, states });
+        (call, answer, states)
+    };
+    talk::compare(&options, next, |asked| counts.add(asked))?;
+    counts.print();
+    counts.nothing_impossible()?;
+    if options.asks_for_all() {
+        counts.all_reached()?;
     }
-    batch
-}
-
-/// What is wrong with a reply, or None.
-fn difference(asked: &Asked, reply: &Reply) -> Option<String> {
-    if reply.answer == asked.answer && reply.states == asked.states && reply.guards == 1 {
-        return None;
-    }
-    Some(format!(
-        "expected {}\n  states {}\nreceived {}\n  states {}\n  guards {}",
-        in_words(asked.answer),
-        hex(&asked.states),
-        in_words(reply.answer),
-        hex(&reply.states),
-        if reply.guards == 1 { "intact" } else { "broken" },
-    ))
-}
-
-fn report(seed: u64, asked: &Asked, what: &str) -> String {
-    let call = &asked.call;
-    format!(
-        "DIFFERENCE\nseed {seed}\ncall {}\nkind {} ({:?})\nrule {}\ntable {}\nstates {}\n{} {}\nbudget {}\n{what}",
-        asked.number,
-        kind_number(call.kind),
-        call.kind,
-        call.rule,
-        hex(&call.table),
-        hex(&call.states),
-        if call.kind == Kind::Check { "record" } else { "words" },
-        hex(&call.words),
-        call.budget,
-    )
-}
-
-fn in_words(answer: u64) -> String {
-    format!("number {} plan {} step {}", number_of(answer), answer >> 16 & 0xFFFF, answer >> 32)
-}
-
-fn number_of(answer: u64) -> u64 {
-    answer & 0xFFFF
+    Ok(())
 }
 
 // ------------------------------------------------------------------------------------------------
-// Talking with the child
+// What is sent
 // ------------------------------------------------------------------------------------------------
-
-struct Talk {
-    process: Child,
-    /// None once it has been closed.
-    to_child: Option<ChildStdin>,
-    from_child: BufReader<ChildStdout>,
-}
-
-impl Talk {
-    fn start(command: &[String]) -> Result<Talk, String> {
-        let mut process = Command::new(&command[0])
-            .args(&command[1..])
-            .stdin(Stdio::piped())
-            .stdout(Stdio::piped())
-            .spawn()
-            .map_err(|error| format!("cannot start {}: {error}", command[0]))?;
-        let to_child = process.stdin.take();
-        let from_child = BufReader::new(process.stdout.take().expect("standard output is piped"));
-        Ok(Talk { process, to_child, from_child })
-    }
-
-    /// Sends a whole batch and reads the replies: fewer of them than calls if the child stops.
-    ///
-    /// One thread writes while this one reads. If one thread did both, child and tester could wait
-    /// for each other for ever: the child to get rid of an answer, the tester of a request. A third
-    /// thread ends a child that does not answer in time; the reader then sees that it has gone.
-    fn exchange(&mut self, batch: &[Asked], patience: Duration) -> Vec<Reply> {
-        let requests: Vec<u8> = batch.iter().flat_map(|asked| request(&asked.call)).collect();
-        let to_child = self.to_child.as_mut().expect("open until the end");
-        let from_child = &mut self.from_child;
-        let process = &mut self.process;
-        let (all_read, wait_for_all_read) = mpsc::channel::<()>();
-        std::thread::scope(|scope| {
-            // An error here means that the child has gone; the reader sees that too.
-            scope.spawn(move || to_child.write_all(&requests).and_then(|()| to_child.flush()).ok());
-            scope.spawn(move || {
-                if wait_for_all_read.recv_timeout(patience) == Err(RecvTimeoutError::Timeout) {
-                    process.kill().ok();
-                }
-            });
-            let reply = |asked: &Asked| read_reply(from_child, asked.call.states.len()).ok();
-            let replies = batch.iter().map_while(reply).collect();
-            drop(all_read);
-            replies
-        })
-    }
-
-    /// Ends the child's input; it must then say no more and end well.
-    fn finish(mut self) -> Result<(), String> {
-        self.to_child = None;
-        let mut rest = Vec::new();
-        self.from_child.read_to_end(&mut rest).map_err(|error| format!("cannot read: {error}"))?;
-        if !rest.is_empty() {
-            return Err(format!("the child wrote {} bytes after its last answer", rest.len()));
-        }
-        match self.process.wait() {
-            Ok(status) if status.success() => Ok(()),
-            Ok(status) => Err(format!("the child ended with {status}")),
-            Err(error) => Err(format!("cannot wait for the child: {error}")),
-        }
-    }
-}
-
-impl Drop for Talk {
-    /// A child is not left behind when the tester stops at a difference.
-    fn drop(&mut self) {
-        self.process.kill().ok();
-        self.process.wait().ok();
-    }
-}
 
 fn kind_number(kind: Kind) -> u8 {
     match kind {
@@ -282,56 +80,33 @@ fn kind_number(kind: Kind) -> u8 {
     }
 }
 
-fn request(call: &Call) -> Vec<u8> {
-    let mut bytes = vec![kind_number(call.kind)];
-    bytes.extend(call.rule.to_le_bytes());
-    for part in [&call.table, &call.states, &call.words] {
-        bytes.extend((part.len() as u32).to_le_bytes());
+impl talk::Call for Call {
+    fn request(&self) -> Vec<u8> {
+        let mut bytes = vec![kind_number(self.kind)];
+        bytes.extend(self.rule.to_le_bytes());
+        for part in [&self.table, &self.states, &self.words] {
+            bytes.extend((part.len() as u32).to_le_bytes());
+        }
+        bytes.extend(self.budget.to_le_bytes());
+        for part in [&self.table, &self.states, &self.words] {
+            bytes.extend(part);
+        }
+        bytes
     }
-    bytes.extend(call.budget.to_le_bytes());
-    for part in [&call.table, &call.states, &call.words] {
-        bytes.extend(part);
-    }
-    bytes
-}
 
-fn read_reply(from_child: &mut impl Read, states_length: usize) -> io::Result<Reply> {
-    let mut answer = [0; 8];
-    let mut states = vec![0; states_length];
-    let mut guards = [0];
-    from_child.read_exact(&mut answer)?;
-    from_child.read_exact(&mut states)?;
-    from_child.read_exact(&mut guards)?;
-    Ok(Reply { answer: u64::from_le_bytes(answer), states, guards: guards[0] })
-}
-
-/// The child stopped somewhere in these calls. Answers that it had not sent yet are lost, so each
-/// call is tried again with a child of its own.
-fn find_the_call_that_stops_the_child(options: &Options, unanswered: &[Asked]) -> String {
-    for asked in unanswered {
-        let alone = Talk::start(&options.child).map(|mut talk| {
-            let replies = talk.exchange(std::slice::from_ref(asked), options.patience);
-            (replies, talk.finish())
-        });
-        let what = match alone {
-            Err(message) => message,
-            Ok((replies, end)) => match (replies.first(), end) {
-                (None, end) => format!("no answer: {}", end.err().unwrap_or("the child ended".to_string())),
-                (Some(reply), Ok(())) => match difference(asked, reply) {
-                    None => continue,
-                    Some(difference) => difference,
-                },
-                (Some(_), Err(end)) => end,
-            },
-        };
-        return report(options.seed, asked, &what);
+    fn tell(&self) -> String {
+        format!(
+            "kind {} ({:?})\nrule {}\ntable {}\nstates {}\n{} {}\nbudget {}",
+            kind_number(self.kind),
+            self.kind,
+            self.rule,
+            hex(&self.table),
+            hex(&self.states),
+            if self.kind == Kind::Check { "record" } else { "words" },
+            hex(&self.words),
+            self.budget,
+        )
     }
-    format!(
-        "DIFFERENCE\nseed {}\nthe child stopped in calls {} to {}, and on none of them alone",
-        options.seed,
-        unanswered[0].number,
-        unanswered[0].number + unanswered.len() as u64 - 1,
-    )
 }
 
 // ------------------------------------------------------------------------------------------------
@@ -415,10 +190,6 @@ fn class(sizes: &[(&str, u64)], size: u64) -> usize {
 }
 
 impl Counts {
-    fn calls(&self) -> u64 {
-        self.answers.iter().flatten().sum()
-    }
-
     fn add(&mut self, asked: &Asked) {
         let number = number_of(asked.answer);
         self.answers[usize::from(kind_number(asked.call.kind)) - 1][number as usize] += 1;
@@ -452,10 +223,10 @@ impl Counts {
     }
 
     fn add_moves(&mut self, asked: &Asked) {
-        for (&old, &new) in asked.call.states.iter().zip(&asked.states) {
+        for (&old, &new) in asked.call.states.iter().zip(&asked.left) {
             self.moves[usize::from(old)][usize::from(new)] += 1;
         }
-        self.still_steps += u64::from(asked.call.states == asked.states);
+        self.still_steps += u64::from(asked.call.states == asked.left);
         self.add_picks(asked);
     }
 
@@ -466,7 +237,7 @@ impl Counts {
             highest = highest.max(usize::from(word[3]));
             word[3] = 0;
         }
-        if highest > 0 && without_picks.ask_reference().1 != asked.states {
+        if highest > 0 && without_picks.ask_reference().1 != asked.left {
             self.picks_that_decided += 1;
             self.highest_pick_that_decided = self.highest_pick_that_decided.max(highest);
         }
@@ -581,7 +352,7 @@ impl Counts {
 
 impl Told {
     fn add(&mut self, asked: &Asked) {
-        let Asked { call, answer, states, .. } = asked;
+        let Asked { call, answer, left: states, .. } = asked;
         let rule = match cases::RULES.into_iter().find(|&(number, _)| number == call.rule) {
             Some((_, rule)) => rule,
             None => {

@@ -9,18 +9,23 @@
 
 #[allow(dead_code)]
 mod cases;
+mod dice;
 #[allow(dead_code)]
 mod losses;
 mod program;
 #[allow(dead_code)]
 mod reference;
 #[allow(dead_code)]
+mod tally;
+#[allow(dead_code)]
 mod turns;
 
-use cases::{hex, Dice, Kind, Maker};
+use cases::{Kind, Maker};
+use dice::{hex, Dice};
 use program::{printed, refusal_line, Options};
 use reference::Rule;
 use std::process::ExitCode;
+use tally::Lines;
 
 /// "`aprcheck` uses 2"
 const RULE: u32 = 2;
@@ -35,7 +40,7 @@ fn main() -> ExitCode {
     let mut maker = Maker::new(seed);
     let mut dice = Dice::new(seed);
     let mut accepted = 0;
-    let (mut turns, mut verdicts) = (turns::Lines::default(), turns::Lines::default());
+    let (mut turns, mut verdicts) = (Lines::default(), Lines::default());
     for _ in 0..inputs {
         let input = next_input(&mut maker, &mut dice);
         let (expected, got) = (line(&input), printed(&program, &input));

@@ -3,7 +3,7 @@
 
 use crate::cases::{self, Call, Kind, RULES, WRONG_RULES};
 use crate::reference::{self, Before, Plan, Rule};
-use crate::turns::Lines;
+use crate::tally::Lines;
 
 // ------------------------------------------------------------------------------------------------
 // Moves

@@ -1,6 +1,7 @@
 //! Tests of the reference itself: `rustc --test differ.rs`.
 
-use crate::cases::{self, Dice};
+use crate::cases;
+use crate::dice::Dice;
 use crate::reference::{self, answer, Before, Plan, Rule};
 
 // ------------------------------------------------------------------------------------------------

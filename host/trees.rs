@@ -8,15 +8,20 @@
 
 #[allow(dead_code)]
 mod cases;
+#[allow(dead_code)]
+mod dice;
 mod program;
 #[allow(dead_code)]
 mod reference;
 #[allow(dead_code)]
+mod tally;
+#[allow(dead_code)]
 mod turns;
 
-use cases::{hex, Dice};
+use dice::{hex, Dice};
 use program::{printed, refusal_line, Options};
 use std::process::ExitCode;
+use tally::Lines;
 
 /// What `trials` reads at most.
 const MOST_BYTES: usize = 262_144;
@@ -72,7 +77,7 @@ fn main() -> ExitCode {
 
 fn run(options: &Options) -> Result<(), String> {
     let questions = questions(options);
-    let (mut counts, mut for_bodies) = ([0; KINDS.len()], turns::Lines::default());
+    let (mut counts, mut for_bodies) = ([0; KINDS.len()], Lines::default());
     let (mut asked, mut runs) = (0, 0);
     while asked < questions.len() {
         let batch = next_batch(&questions[asked..]);

@@ -1,27 +1,29 @@
 /*
  * asbru.h: the rules of Asbru plans, for a host program in C or C++.
  *
- * Three functions over byte buffers that the caller owns: one step, a run to rest, and the checker of treatment records. They are
- * written in Rattle and proved (crate `tablet`). Link with libasbru.a, which `make` writes for x86-64. docs/RULES.md has the rules in
- * words, in numbered paragraphs; asbru_text.h, which is not proved, has a text for each state, body and number.
+ * Three functions over byte buffers that the caller owns: one step, a run to rest, and the checker of treatment records. Three more make
+ * what a word says of a pattern from how long the pattern has held. All are written in Rattle and proved (crate `tablet`). Link with
+ * libasbru.a, which `make` writes for x86-64. docs/RULES.md has the rules in words, in numbered paragraphs; asbru_text.h, which is not
+ * proved, has a text for each state, body and number.
  *
  *
  * RULES 1 AND 2
  *
- * Each function takes the number of a rule first, one of `enum asbru_rule`; any other number is refused before all else. They differ in
- * one thing, the children that are lost to a plan with retry-aborted. Under ASBRU_RULE_1 an Aborted child is lost although the plan would
- * retry it: where wait-for then fails of the children that are left, the plan aborts before any retry. Under ASBRU_RULE_2 an Aborted
- * child of such a plan is not lost, and only Rejected ones are. Without retry-aborted the two agree, and Rejected and Aborted children are
- * lost. Treatments of now go by ASBRU_RULE_2; ASBRU_RULE_1 is for records that were kept before it came. A record does not say by which
- * rule it was kept: whoever keeps both kinds keeps them apart.
+ * asbru_step, asbru_rest and asbru_check take the number of a rule first, one of `enum asbru_rule`; any other number is refused before all
+ * else. The rules differ in one thing, the children that are lost to a plan with retry-aborted. Under ASBRU_RULE_1 an Aborted child is lost
+ * although the plan would retry it: where wait-for then fails of the children that are left, the plan aborts before any retry. Under
+ * ASBRU_RULE_2 an Aborted child of such a plan is not lost, and only Rejected ones are. Without retry-aborted the two agree, and Rejected
+ * and Aborted children are lost. Treatments of now go by ASBRU_RULE_2; ASBRU_RULE_1 is for records that were kept before it came. A record
+ * does not say by which rule it was kept: whoever keeps both kinds keeps them apart.
  *
  *
  * BUFFERS
  *
- * Each buffer is a pointer followed by its length in bytes. The pointer may be NULL where the length is 0. Any bytes and any lengths
- * may be handed in: what is wrong with them is answered by number and place. The caller keeps two promises that no code can check:
- * the bytes are there (readable, and those of `states` writable), and `states` overlaps no other buffer of the call.
- * Numbers are little-endian. n is the number of plans, 1 to 256; plans are numbered from 0, parents before their children.
+ * Each buffer of bytes is a pointer followed by its length in bytes; samples are a pointer followed by their number, and an annotation is a
+ * pointer to its ASBRU_BOUNDS numbers. The pointer may be NULL where the length is 0. Any bytes, numbers and lengths may be handed in: what
+ * is wrong with them is answered by number and place. The caller keeps two promises that no code can check: what it hands in is there
+ * (readable, and `states` and the annotation to be normalised writable), and `states` overlaps no other buffer of the call. Numbers are
+ * little-endian. n is the number of plans, 1 to 256; plans are numbered from 0, parents before their children.
  *
  * Table: 8 + 8n bytes.
  *   0-2  the mark 'A' 'P' 'T'
@@ -95,22 +97,41 @@
  *   its first children after eight, at the earliest.
  *
  *
+ * HOW LONG A PATTERN HAS HELD
+ *
+ * Times are whole minutes, -ASBRU_MOST_MINUTES to ASBRU_MOST_MINUTES, counted from where the host likes. A time annotation is seven of
+ * them, in the order of `enum asbru_bound`: earliest and latest start, earliest and latest finish, least and greatest duration, reference
+ * point. The first four are shifts from the reference point. ASBRU_OPEN stands for a bound that is open: any but the least duration,
+ * which is 0 or more, and the reference point. A greatest duration below 0 admits nothing.
+ *   A history is at most ASBRU_MOST_SAMPLES samples, their minutes strictly rising, none after the minute of asking. A sample says whether
+ * the underlying pattern is true from its minute until the next sample's, the last one through the minute of asking; at all other minutes
+ * it counts as not true. asbru_sample makes one.
+ *   The annotation is satisfied exactly where there is an interval, from a first to a last minute, at all minutes of which the pattern is
+ * true, that keeps the six bounds (its duration is last less first), before which the pattern is not true or which starts at the reference
+ * point plus the earliest start, and after which it is not true or which finishes at the reference point plus the latest finish. It is
+ * satisfiable exactly where the history can go on after the minute of asking, in some way and as long as need be, such that it is
+ * satisfied. What is satisfied is satisfiable.
+ *   So a host that asks every condition's pattern and puts the answers into words by asbru_with_pattern hands in no word that number 12
+ * refuses for being satisfied but not satisfiable.
+ *
+ *
  * ANSWERS
  *
  * An answer is number + plan * 2^16 + step * 2^32; asbru_number, asbru_plan and asbru_step_of take it apart. ASBRU_DONE is success, and
- * each function below says what plan and step then are. Any other number of `enum asbru_answer` is a refusal. Checks are made in the
- * order of the numbers, but 17 first, each over all plans before the next (asbru_check: 17, 1 to 9, 13, 14, then step by step 12 before
- * 15), so a refusal is the first thing wrong. `plan` is the lowest plan concerned; `step` counts from 1; both are 0 where the list names
- * none.
+ * each function below says what plan and step then are. Any other number of `enum asbru_answer` is a refusal. Checks are made in the order
+ * of the numbers, but 17 first, each over all plans before the next (asbru_check: 17, 1 to 9, 13, 14, then step by step 12 before 15;
+ * asbru_pattern 18 to 20; asbru_normalise 18, 21, 26), so a refusal is the first thing wrong. `plan` is the lowest plan concerned; `step`
+ * counts from 1; both are 0 where the list names none.
  *
  *
  * WHAT A CALL TOUCHES
  *
- * `states` is all that is written, by asbru_step and asbru_rest, and only where the answer's number is ASBRU_DONE: after a refusal it is
- * as it was. Nothing is allocated, nothing is kept from one call to the next, and nothing global is read or written, so calls from
- * several threads are independent as long as no thread writes a buffer that another call uses: tables may be shared, states may not.
- * Every call returns. A call takes about 23 KiB of stack, whatever it is handed. Its time grows with n, of asbru_rest with n for each
- * step taken (at most 65535), of asbru_check with the record's length.
+ * `states` is all that is written, by asbru_step and asbru_rest, and the annotation by asbru_normalise, and only where the answer's number
+ * is ASBRU_DONE: after a refusal they are as they were. Nothing is allocated, nothing is kept from one call to the next, and nothing global
+ * is read or written, so calls from several threads are independent as long as no thread writes a buffer that another call uses: tables may
+ * be shared, states may not. Every call returns. A call of the first three functions takes about 23 KiB of stack, whatever it is handed.
+ * Its time grows with n, of asbru_rest with n for each step taken (at most 65535), of asbru_check with the record's length, of
+ * asbru_pattern with the number of samples. The calls about patterns take less than 1 KiB.
  */
 #ifndef ASBRU_H
 #define ASBRU_H
@@ -123,7 +144,7 @@ extern "C" {
 #endif
 
 /* Raised by one whenever a function, a format, a number or a rule changes: CHANGELOG.md says how. */
-#define ASBRU_VERSION 3
+#define ASBRU_VERSION 4
 
 /* Limits, and the sizes of what buffers hold. */
 enum asbru_size {
@@ -134,6 +155,8 @@ enum asbru_size {
     ASBRU_MOST_PLANS = 256,
     ASBRU_MOST_CHILDREN = 64, /* of one plan */
     ASBRU_MOST_STEPS = 65535, /* of a record, and the largest budget */
+    ASBRU_MOST_SAMPLES = 1024, /* of a history */
+    ASBRU_MOST_MINUTES = 1000000000, /* before and after minute 0 */
     ASBRU_NO_PARENT = 65535
 };
 
@@ -207,6 +230,30 @@ enum asbru_state {
 /* All bits of a pick: a record has none of them. */
 #define ASBRU_PICK_BITS ASBRU_PICK(63)
 
+/* The numbers of a time annotation, by their places. */
+enum asbru_bound {
+    ASBRU_EARLIEST_START,
+    ASBRU_LATEST_START,
+    ASBRU_EARLIEST_FINISH,
+    ASBRU_LATEST_FINISH,
+    ASBRU_LEAST_DURATION,
+    ASBRU_GREATEST_DURATION,
+    ASBRU_REFERENCE_POINT,
+    ASBRU_BOUNDS /* how many they are */
+};
+
+/* A bound that is open. */
+#define ASBRU_OPEN INT64_MIN
+
+/* The plan of asbru_pattern's answer: a bit for each. Never the first alone. */
+enum asbru_judgement {
+    ASBRU_IS_SATISFIED = 1,
+    ASBRU_IS_SATISFIABLE = 2
+};
+
+/* The condition of an if-then-else plan, for asbru_with_pattern only: it is no bit of a word, as those of `enum asbru_condition` are. */
+#define ASBRU_IF 6
+
 /*
  * The number of an answer: given exactly when what stands above it is the first that is so, in the order told under ANSWERS. In brackets
  * what else the answer names.
@@ -251,7 +298,17 @@ enum asbru_answer {
     /* the input is over 65536 bytes: of the program `aprcheck`, never of these functions */
     ASBRU_REFUSED_INPUT_LONG = 16,
     /* the rule number is neither 1 nor 2; looked for before all else */
-    ASBRU_REFUSED_RULE_NUMBER = 17
+    ASBRU_REFUSED_RULE_NUMBER = 17,
+    /* a number of the annotation, the minute of asking or a sample's minute is out of range, however many samples there are */
+    ASBRU_REFUSED_VALUE_RANGE = 18,
+    /* there are more than 1024 samples */
+    ASBRU_REFUSED_MANY_SAMPLES = 19,
+    /* the samples' minutes do not rise strictly, or the minute of asking is before the last of them */
+    ASBRU_REFUSED_TIMES_ORDER = 20,
+    /* the annotation to be normalised admits no interval */
+    ASBRU_REFUSED_NO_INTERVAL = 21,
+    /* a number of the normal form is out of range */
+    ASBRU_REFUSED_NORMAL_RANGE = 26
 };
 
 /*
@@ -275,6 +332,32 @@ uint64_t asbru_rest(uint32_t rule, const uint8_t *table, size_t table_length, ui
  * ASBRU_REFUSED_RECORD_HEADER, exactly where no number from 1 to 9 is given.
  */
 uint64_t asbru_check(uint32_t rule, const uint8_t *table, size_t table_length, const uint8_t *record, size_t record_length);
+
+/*
+ * Whether a pattern's history satisfies a time annotation at the minute of asking, or still can. ASBRU_DONE, with step 0: plan is
+ * ASBRU_IS_SATISFIED | ASBRU_IS_SATISFIABLE, ASBRU_IS_SATISFIABLE or 0. It writes nothing. `samples` may be NULL where `count` is 0.
+ */
+uint64_t asbru_pattern(const int64_t annotation[ASBRU_BOUNDS], const int64_t *samples, size_t count, int64_t asked);
+
+/*
+ * Puts an annotation's normal form in its place: the narrowest bounds that admit the same intervals. ASBRU_DONE, with plan 0 and step 0.
+ * Ask asbru_pattern about the annotation itself: a bound that was open excuses no start or finish inside a longer run, and the normal
+ * form's does, so that the answers may differ.
+ */
+uint64_t asbru_normalise(int64_t annotation[ASBRU_BOUNDS]);
+
+/*
+ * A word with what asbru_pattern answered for a condition, one of `enum asbru_condition` or ASBRU_IF: the bit for satisfied and, of
+ * ASBRU_FILTER, ASBRU_SETUP and ASBRU_IF, the bit for satisfiable; all other bits stay. Where the answer's number is not ASBRU_DONE or the
+ * condition is none of these, all bits stay. Of the answer only its number and bits 16 and 17, the plan's lowest two, are read.
+ */
+uint32_t asbru_with_pattern(uint32_t word, uint32_t condition, uint64_t answer);
+
+/* A sample: from this minute on the pattern is true, or is not. Where the minute is out of range, so is the sample (number 18). */
+static inline int64_t asbru_sample(int64_t minute, int truth) {
+    if (minute < -ASBRU_MOST_MINUTES || minute > ASBRU_MOST_MINUTES) return INT64_MAX;
+    return 2 * minute + (truth != 0);
+}
 
 /* The number of an answer, one of `enum asbru_answer`. */
 static inline unsigned asbru_number(uint64_t answer) {

@@ -63,6 +63,11 @@ static inline const char *asbru_number_text(unsigned number) {
     case ASBRU_REFUSED_UNEXPLAINED: return "no picks lead to the state shown";
     case ASBRU_REFUSED_INPUT_LONG: return "the input is over the program's 65536 bytes";
     case ASBRU_REFUSED_RULE_NUMBER: return "the rule number is neither 1 nor 2";
+    case ASBRU_REFUSED_VALUE_RANGE: return "a number of the annotation or a minute is out of range";
+    case ASBRU_REFUSED_MANY_SAMPLES: return "there are more than 1024 samples";
+    case ASBRU_REFUSED_TIMES_ORDER: return "the samples' minutes do not rise, or the last is after the minute of asking";
+    case ASBRU_REFUSED_NO_INTERVAL: return "the annotation admits no interval";
+    case ASBRU_REFUSED_NORMAL_RANGE: return "a number of the normal form is out of range";
     default: return "no number of this library";
     }
 }

@@ -2,6 +2,7 @@
 pub mod Bodies
 pub mod Codes
 pub mod Digits
+pub mod Known
 pub mod Least
 pub mod Outcomes
 pub mod Tree

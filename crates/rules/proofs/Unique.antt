@@ -23,6 +23,7 @@ use Rattle.rules.proofs.PlanEntry.wait_for.Reads as wait-for
 use Rattle.rules.proofs.Refusal.place.Reads as placed
 use Rattle.rules.proofs.is_rule.Reads as is-rule
 use Rattle.rules.proofs.pick_of.Reads as pick-of
+use Rattle.rules.proofs.Pattern.put.Reads as put
 
 -- two answers that equal one thing are equal
 pub one-answer {ℓ} : {A : Type ℓ} {definition r r′ : A} → r ≡ definition → r′ ≡ definition → r ≡ r′
@@ -46,13 +47,14 @@ states-once = (by-equation, by-equation, by-equation, by-equation, by-equation, 
 -- those of a body, a condition, a bit and an input word
 pub bodies-once :
     OneAnswer is-body.Post × OneAnswer is-of-two.Post × OneAnswer bit.Post × OneAnswer is-set.Post
-    × OneAnswer pick-of.Post
+    × OneAnswer pick-of.Post × OneAnswer put.Post
 bodies-once = (
   by-equation,
   by-equation,
   record { once = λ κs a z z′ e e′ h h′. one-answer (h .0) (h′ .0) },
   by-equation,
   record { once = λ κs a z z′ e e′ h h′. one-answer (h .0) (h′ .0) },
+  by-equation,
 )
 
 -- those of a plan's entry

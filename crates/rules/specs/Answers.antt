@@ -53,6 +53,11 @@ use Rattle.rules.specs.declared.Refusal.the-variants.{
   Unexplained,
   InputLong,
   RuleNumber,
+  ValueRange,
+  ManySamples,
+  TimesOrder,
+  NoInterval,
+  NormalRange,
 }
 use Rattle.rules.specs.declared.Outcome.{Outcome}
 use Rattle.rules.specs.declared.Outcome.the-variants.{Done, Refused}
@@ -83,6 +88,11 @@ place RecordLength = placed 14 0 0
 place (Unexplained i p) = placed 15 i p
 place InputLong = placed 16 0 0
 place RuleNumber = placed 17 0 0
+place ValueRange = placed 18 0 0
+place ManySamples = placed 19 0 0
+place TimesOrder = placed 20 0 0
+place NoInterval = placed 21 0 0
+place NormalRange = placed 26 0 0
 
 -- one check, and if it finds nothing the next
 infixr 10 _andThen_

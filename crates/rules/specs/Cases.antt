@@ -1,7 +1,7 @@
 -- Document 01, 'Small protocols to try': the lines marked P, in their order, then some that are not, then rows of our own, with those of
--- document 02 (i) and (ii) among them; one table, and one theorem that all its rows hold. A row of a step or a run goes through the whole
+-- document 02 (i) to (iii) among them; one table, and one theorem that all its rows hold. A row of a step or a run goes through the whole
 -- call, checks 17 and 1 to 12 included, by each rule that its first column names. Assumes nothing.
-use Prim.Native.Nat.{ℕ, zero, suc, _+_, _*_, _/_, _%_, _^_}
+use Prim.Native.Nat.{ℕ, zero, suc, _+_, _-_, _*_, _/_, _%_, _^_}
 use Prim.Native.String.{String}
 use mathlib.Core.Bool.{Bool, true, false, _&&_}
 use mathlib.Core.Path.{_≡_, refl}
@@ -12,7 +12,7 @@ use Rattle.rules.specs.Lists.{all, same, leastFrom, highest}
 use Rattle.rules.specs.Bytes.{text}
 use Rattle.rules.specs.States.{stateAt}
 use Rattle.rules.specs.Table.{childrenBefore, children, rank, isOrIsAbove}
-use Rattle.rules.specs.Words.{holds, satisfiable}
+use Rattle.rules.specs.Words.{holds, satisfiable, withPattern}
 use Rattle.rules.specs.Step.{
   move,
   tooManyLost,
@@ -56,6 +56,9 @@ use Rattle.rules.specs.Answers.{
 }
 use Rattle.rules.specs.SubTree.{lastDescendant, subTree}
 use Rattle.rules.specs.Program.{decimalTo, line}
+use Rattle.rules.specs.declared.Condition.the-variants.{Filter, Setup, Suspend, Reactivate, Abort, Complete}
+use Rattle.rules.specs.declared.Pattern.{Pattern}
+use Rattle.rules.specs.declared.Pattern.the-variants.{Of, If}
 use Rattle.rules.specs.declared.Refusal.{Refusal}
 use Rattle.rules.specs.declared.Refusal.the-variants.{Unexplained}
 use Rattle.rules.specs.declared.Outcome.{Outcome}
@@ -185,6 +188,8 @@ pub data Row : Type 0 where
   rowShows : List ℕ → ℕ → ℕ → List ℕ → Row
   -- the program's line for a verdict on a table of so many plans
   rowPrints : ℕ → Verdict → String → Row
+  -- a pattern, satisfied and satisfiable or not, put into a word
+  rowPuts : Pattern → Bool → Bool → ℕ → ℕ → Row
 
 isRested : ℕ → Rest → Bool
 isRested k (rest.Rested j) = eqb j k
@@ -231,6 +236,7 @@ holdsIn (rowRefuses rules t from w number plan) =
     && isRefusedRun number plan (runAnswer rule t (states from) w 8) && same (runStates rule t (states from) w 8) (states from)) rules
 holdsIn (rowShows t from p part) = same (subTree t (states from) p) part
 holdsIn (rowPrints n v told) = same (line n v) (text told)
+holdsIn (rowPuts p s t before after) = eqb (withPattern p s t before) after
 
 pub allHold : List Row → Bool
 unfolding holdsIn
@@ -505,9 +511,25 @@ ourShows =
     ∷ rowPrints 1 (verdict.Accepted 0) "accepted 1 0\n"
     ∷ []
 
+-- document 02 (iii): what is known of a pattern, in a word's own bits, set and cleared, all others as they were
+ourWords : List Row
+ourWords =
+    rowPuts (Of Filter) true true 0 65
+    ∷ rowPuts (Of Filter) false true 1 64
+    ∷ rowPuts (Of Filter) false false (2 ^ 32 - 1) (2 ^ 32 - 66)
+    ∷ rowPuts (Of Setup) true true 65 195
+    ∷ rowPuts (Of Suspend) true true 0 4
+    ∷ rowPuts (Of Reactivate) true false 4 12
+    ∷ rowPuts (Of Abort) false true (2 ^ 32 - 1) (2 ^ 32 - 17)
+    ∷ rowPuts (Of Complete) true true 16 48
+    ∷ rowPuts If true true 0 (2 ^ 20 + 2 ^ 21)
+    ∷ rowPuts If false true (2 ^ 20) (2 ^ 21)
+    ∷ rowPuts If false false (2 ^ 32 - 1) (2 ^ 32 - 1 - 2 ^ 20 - 2 ^ 21)
+    ∷ []
+
 pub table : List Row
-unfolding marked unmarked ourMoves badTurns badTurnsRefused retries ourRefusals ourShows
-table = marked ++ unmarked ++ ourMoves ++ badTurns ++ badTurnsRefused ++ retries ++ ourRefusals ++ ourShows
+unfolding marked unmarked ourMoves badTurns badTurnsRefused retries ourRefusals ourShows ourWords
+table = marked ++ unmarked ++ ourMoves ++ badTurns ++ badTurnsRefused ++ retries ++ ourRefusals ++ ourShows ++ ourWords
 
 pub rowsHold : allHold table ≡ true
 unfolding

@@ -1,8 +1,9 @@
--- Document 01, 'Input words', with bits 20 and 21 of document 02 (i): the bits of a word, and when a condition holds or is satisfiable.
--- Assumes nothing.
-use Prim.Native.Nat.{ℕ, _+_, _*_}
+-- Document 01, 'Input words', with bits 20 and 21 of document 02 (i): the bits of a word, how (iii) makes those of a pattern, and when a
+-- condition holds or is satisfiable. Assumes nothing.
+use Prim.Native.Nat.{ℕ, _+_, _-_, _*_, _^_}
 use mathlib.Core.Bool.{Bool, true, false, cond, not, _&&_, _||_}
 use mathlib.Core.List.{List}
+use lib.Bits.{bitAnd, bitOr}
 use lib.Dec.{eqb, ltb}
 use Rattle.rules.specs.Bytes.{u32At, bits, isSet}
 use Rattle.rules.specs.Table.{isBody, bitOf}
@@ -11,6 +12,8 @@ use Rattle.rules.specs.declared.Body.the-variants.{AnyOrder, IfThenElse}
 use Rattle.rules.specs.declared.PlanEntry.{PlanEntry}
 use Rattle.rules.specs.declared.Condition.{Condition}
 use Rattle.rules.specs.declared.Condition.the-variants.{Filter, Setup, Suspend, Reactivate, Abort, Complete}
+use Rattle.rules.specs.declared.Pattern.{Pattern}
+use Rattle.rules.specs.declared.Pattern.the-variants.{Of, If}
 
 -- the word of plan p among the words of a step
 abbrev pub word : List ℕ → ℕ → ℕ
@@ -45,6 +48,25 @@ satisfiedOnly c x = isSet (bitOf c) x && not (isSet (6 + bitOf c) x)
 -- filter, setup or if-then-else is so, whether or not the plan has it
 abbrev pub contradicts : ℕ → Bool
 contradicts x = satisfiedOnly Filter x || satisfiedOnly Setup x || ifSatisfied x && not (ifSatisfiable x)
+
+-- What is known of a pattern, put into a word of 32 bits: satisfied in the bits `first`, satisfiable in the bits `second`; all others stay.
+-- `bitAnd` and `bitOr` go bit by bit.
+abbrev pub withBits : ℕ → ℕ → Bool → Bool → ℕ → ℕ
+withBits first second satisfied satisfiable x =
+    bitOr (bitOr (bitAnd x (2 ^ 32 - 1 - bitOr first second)) (cond satisfied first 0)) (cond satisfiable second 0)
+
+-- of a condition its bit, and of filter and setup the one that says that it still can be; of if-then-else bits 20 and 21
+abbrev pub satisfiableBits : Condition → ℕ
+satisfiableBits Filter = 2 ^ 6
+satisfiableBits Setup = 2 ^ 7
+satisfiableBits Suspend = 0
+satisfiableBits Reactivate = 0
+satisfiableBits Abort = 0
+satisfiableBits Complete = 0
+
+abbrev pub withPattern : Pattern → Bool → Bool → ℕ → ℕ
+withPattern (Of c) satisfied satisfiable x = withBits (2 ^ bitOf c) (satisfiableBits c) satisfied satisfiable x
+withPattern If satisfied satisfiable x = withBits (2 ^ 20) (2 ^ 21) satisfied satisfiable x
 
 -- a present condition, at bit k: (pattern satisfied, and triggered if it is manual) or (overridable and overridden)
 abbrev pub presentHolds : ℕ → PlanEntry → ℕ → Bool

@@ -1,2 +1,3 @@
 -- Theorems over what a host program is answered.
 pub mod Unique
+pub mod Made

@@ -1,6 +1,6 @@
--- One answer: any two that the contract of `asbru_step`, `asbru_rest` or `asbru_check` permits are equal, and so are the states that
--- the first two leave, the contract being as Rattle reads it. And packing loses nothing: a host finds number, plan and step in
--- an answer again, and a refusal's number is never 0. Assumes nothing.
+-- One answer: any two that the contract of a function for C permits are equal, and so are the states that `asbru_step` and `asbru_rest`
+-- leave and the numbers that `asbru_normalise` does, the contract being as Rattle reads it. And packing loses nothing: a host finds
+-- number, plan and step in an answer again, and a refusal's number is never 0. Assumes nothing.
 use Prim.Native.Nat.{ℕ, _/_, _%_, _^_, _<_, _≤_}
 use native.Mathlib.Omega.{arith}
 use mathlib.Core.Path.{_≡_, sym, ap, _∙_}
@@ -26,13 +26,31 @@ use Rattle.rules.specs.declared.Refusal.the-variants.{
   Unexplained,
   InputLong,
   RuleNumber,
+  ValueRange,
+  ManySamples,
+  TimesOrder,
+  NoInterval,
+  NormalRange,
 }
-use Rattle.rules.proofs.Unique.{one-answer, OneAnswer, OneAnswerLeaving}
+use Rattle.rules.proofs.Unique.{one-answer, by-equation, OneAnswer, OneAnswerLeaving}
 use Rattle.demands.proofs.Unique.{judged-once}
+use Rattle.time.proofs.Unique as time
 use Rattle.tablet.proofs.asbru_step.Reads as asbru-step
 use Rattle.tablet.proofs.asbru_rest.Reads as asbru-rest
 use Rattle.tablet.proofs.asbru_check.Reads as asbru-check
-use Rattle.tablet.specs.Packed.{packed, packedRefusal, packedVerdict, Told}
+use Rattle.tablet.proofs.asbru_pattern.Reads as asbru-pattern
+use Rattle.tablet.proofs.asbru_normalise.Reads as asbru-normalise
+use Rattle.tablet.proofs.asbru_with_pattern.Reads as asbru-with-pattern
+use Rattle.tablet.specs.Packed.{
+  packed,
+  packedRefusal,
+  packedOutcome,
+  packedVerdict,
+  Told,
+  packedJudgement,
+  PatternTold,
+  NormalTold,
+}
 
 told-once : (rule : ℕ) (t r : List ℕ) {a b : ℕ} → Told rule t r a → Told rule t r b → a ≡ b
 told-once rule t r x y = x .told ∙ ap packedVerdict (judged-once rule t r (x .judged) (y .judged)) ∙ sym (y .told)
@@ -45,6 +63,23 @@ asbru-step-once κs a z z′ e e′ h h′ = (one-answer (h .0) (h′ .0), one-a
 
 pub asbru-rest-once : OneAnswerLeaving asbru-rest.Post (λ e. now (e .1 .1 .0))
 asbru-rest-once κs a z z′ e e′ h h′ = (one-answer (h .0) (h′ .0), one-answer (h .1) (h′ .1))
+
+pattern-told-once : (l h : List ℕ) (z : ℕ) {a b : ℕ} → PatternTold l h z a → PatternTold l h z b → a ≡ b
+pattern-told-once l h z x y = x .told ∙ ap packedJudgement (time.judged-once l h z (x .judged) (y .judged)) ∙ sym (y .told)
+
+pub asbru-pattern-once : OneAnswer asbru-pattern.Post
+asbru-pattern-once = record { once = λ κs a z z′ e e′ h h′. pattern-told-once (now (a .0)) (now (a .1 .0)) (a .1 .1 .0) h h′ }
+
+normal-told-once : (l : List ℕ) {m n : List ℕ} {a b : ℕ} → NormalTold l m a → NormalTold l n b → (a ≡ b) × (m ≡ n)
+normal-told-once l x y =
+    let same = time.normalised-once l (x .normalised) (y .normalised) in
+    (x .told ∙ ap packedOutcome (same .0) ∙ sym (y .told), same .1)
+
+pub asbru-normalise-once : OneAnswerLeaving asbru-normalise.Post (λ e. now (e .0))
+asbru-normalise-once κs a z z′ e e′ h h′ = normal-told-once (now (a .0)) h h′
+
+pub asbru-with-pattern-once : OneAnswer asbru-with-pattern.Post
+asbru-with-pattern-once = by-equation
 
 -- how a host takes an answer apart
 module _ (number step plan : ℕ) (numberFits : number < 2 ^ 16) (planFits : plan < 2 ^ 16) where
@@ -64,8 +99,8 @@ pub nothing-lost :
     → (number ≡ number′) × (step ≡ step′) × (plan ≡ plan′)
 nothing-lost number step plan number′ step′ plan′ a b a′ b′ e = (omega arith, omega arith, omega arith)
 
--- a refusal's number is 1 to 17
-pub refusal-number : (why : Refusal) → (0 < place why .number) × (place why .number ≤ 17)
+-- a refusal's number is 1 to 26
+pub refusal-number : (why : Refusal) → (0 < place why .number) × (place why .number ≤ 26)
 refusal-number TableShort = (omega arith, omega arith)
 refusal-number TableMark = (omega arith, omega arith)
 refusal-number TableVersion = (omega arith, omega arith)
@@ -83,6 +118,11 @@ refusal-number RecordLength = (omega arith, omega arith)
 refusal-number (Unexplained i p) = (omega arith, omega arith)
 refusal-number InputLong = (omega arith, omega arith)
 refusal-number RuleNumber = (omega arith, omega arith)
+refusal-number ValueRange = (omega arith, omega arith)
+refusal-number ManySamples = (omega arith, omega arith)
+refusal-number TimesOrder = (omega arith, omega arith)
+refusal-number NoInterval = (omega arith, omega arith)
+refusal-number NormalRange = (omega arith, omega arith)
 
 -- so two refusals that are packed alike have the same number, step and plan,
 pub same-refusal :

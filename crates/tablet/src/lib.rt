@@ -1,12 +1,17 @@
-// The step, the run to rest and the checker for a tablet's host program written in C, on numbers and byte slices; include/asbru.h
-// declares them. Each answers one 64-bit number, which `Packed` in specs/ lays out. Nothing is allocated. Assumes nothing.
+// The step, the run to rest, the checker and what makes a word's pattern bits, for a tablet's host program written in C, on numbers and
+// slices; include/asbru.h declares them. An answer is one 64-bit number, which `Packed` in specs/ lays out. Nothing is allocated. Assumes
+// nothing.
 ghost use mathlib.Core.Path.{_≡_};
 ghost use Rattle.rules.specs.Answers.{stepAnswer, stepStates, runAnswer, runStates};
 ghost use Rattle.tablet.specs.Packed.{packed, packedRefusal, packedOutcome, packedRest, packedVerdict, Told};
+ghost use Rattle.tablet.specs.Packed.{packedJudgement, PatternTold, NormalTold, patternOf, withAnswer};
+use rules::Condition;
 use rules::Outcome;
+use rules::Pattern;
 use rules::Refusal;
 use rules::Rest;
 use rules::Verdict;
+use time::Judgement;
 
 // One synchronous step over the states, by a rule, or a refusal that changes none of them.
 #[no_mangle]
@@ -41,6 +46,51 @@ pub extern "C" fn asbru_check(rule: u32, table: &[u8], record: &[u8]) -> u64
     pack_verdict(record::check(rule, table, record))
 }
 
+// Whether a history satisfies a time annotation at the minute of asking, or still can.
+#[no_mangle]
+pub extern "C" fn asbru_pattern(annotation: &[u64; 7], samples: &[u64], asked: u64) -> u64
+    ensures { λ r. ⌜ PatternTold (now (annotation .entry)) (now (samples .entry)) asked r ⌝ }
+{
+    pack_judgement(pattern::judge(annotation, samples, asked))
+}
+
+// Puts the normal form of a time annotation in its place, or a refusal that changes none of it.
+#[no_mangle]
+pub extern "C" fn asbru_normalise(annotation: &mut [u64; 7]) -> u64
+    ensures { λ r. ⌜ NormalTold (now (annotation .entry)) (now (annotation .exit)) r ⌝ }
+{
+    pack_outcome(pattern::normalise(annotation))
+}
+
+// The word with what was answered of the pattern of a condition; as it was, where the answer is a refusal or there is no such condition.
+#[no_mangle]
+pub extern "C" fn asbru_with_pattern(word: u32, condition: u32, answer: u64) -> u32
+    ensures { λ r. ⌜ r ≡ withAnswer word condition answer ⌝ }
+{
+    if answer % 65536 != 0 {
+        return word;
+    }
+    if 6 < condition {
+        return word;
+    }
+    pattern_of(condition).put((answer >> 16) % 2 == 1, (answer >> 17) % 2 == 1, word)
+}
+
+// The pattern that a number stands for: a condition by its bit, and 6 for if-then-else.
+fn pattern_of(condition: u32) -> Pattern
+    ensures { λ r. ⌜ r ≡ patternOf condition ⌝ }
+{
+    match condition {
+        0 => Pattern::Of(Condition::Filter),
+        1 => Pattern::Of(Condition::Setup),
+        2 => Pattern::Of(Condition::Suspend),
+        3 => Pattern::Of(Condition::Reactivate),
+        4 => Pattern::Of(Condition::Abort),
+        5 => Pattern::Of(Condition::Complete),
+        _ => Pattern::If,
+    }
+}
+
 // What the step answers.
 fn pack_outcome(outcome: Outcome) -> u64
     ensures { λ r. ⌜ r ≡ packedOutcome outcome ⌝ }
@@ -69,6 +119,18 @@ fn pack_verdict(verdict: Verdict) -> u64
     match verdict {
         Verdict::Accepted(steps) => pack(0, steps, 0),
         Verdict::Refused(why) => pack_refusal(why),
+    }
+}
+
+// What a question about a pattern is answered.
+fn pack_judgement(judgement: Judgement) -> u64
+    ensures { λ r. ⌜ r ≡ packedJudgement judgement ⌝ }
+{
+    match judgement {
+        Judgement::Satisfied { first: _, last: _ } => pack(0, 0, 3),
+        Judgement::Satisfiable => pack(0, 0, 2),
+        Judgement::Neither => pack(0, 0, 0),
+        Judgement::Refused(why) => pack_refusal(why),
     }
 }
 
