@@ -9,7 +9,8 @@
 --   (never below 0), product, whole quotient, remainder, power; `x / 2 ^ k % 2` is ((x / (2 ^ k)) % 2).
 --   `cond b x y` is x where b is true, else y, and so is `elim b [ true ↦ x | false ↦ y ]`. `not`, `&&`, `||`: && joins more closely.
 --   `eqb`, `ltb`, `leb` test a = b, a < b, a ≤ b, and `Bool·beq` whether two tests agree. `T b`: the test b is true.
---   `x ≡ y`: they are the same. `A → ⊥`: A does not hold. `A ⊎ B`: one of the two. `(a : A) × B`: some a of which B holds.
+--   `x ≡ y`: they are the same; `x ≤ y`, `x < y`. `A → ⊥`: A does not hold; `⊥` never does, `Unit` always. `A ⊎ B`: one of the two, or
+--   both; `A × B`: both. `(a : A) → B`: of every a B holds; `(a : A) × B`: some a of which B holds. `max`, `min`: the larger, the smaller.
 --   Lists: `[]`, `x ∷ xs`, `xs ++ ys`, `length`; `take n`, `drop n`: the first n, and all but these; `getD s i d`: what stands at i,
 --   counted from 0, or d past the end; `replicate n v`: n times v; `map f`: f of each.
 --   `record R .. where`: an R is one value for each line; `r .field` reads one, `record { field = .. }` gives them. (A treatment record

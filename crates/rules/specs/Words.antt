@@ -55,7 +55,7 @@ abbrev pub withBits : ℕ → ℕ → Bool → Bool → ℕ → ℕ
 withBits first second satisfied satisfiable x =
     bitOr (bitOr (bitAnd x (2 ^ 32 - 1 - bitOr first second)) (cond satisfied first 0)) (cond satisfiable second 0)
 
--- of a condition its bit, and of filter and setup the one that says that it still can be; of if-then-else bits 20 and 21
+-- the bit that says of a condition that it still can be: of filter and of setup, and none of the others
 abbrev pub satisfiableBits : Condition → ℕ
 satisfiableBits Filter = 2 ^ 6
 satisfiableBits Setup = 2 ^ 7
@@ -64,6 +64,7 @@ satisfiableBits Reactivate = 0
 satisfiableBits Abort = 0
 satisfiableBits Complete = 0
 
+-- a condition's own bits, or bits 20 and 21 of if-then-else
 abbrev pub withPattern : Pattern → Bool → Bool → ℕ → ℕ
 withPattern (Of c) satisfied satisfiable x = withBits (2 ^ bitOf c) (satisfiableBits c) satisfied satisfiable x
 withPattern If satisfied satisfiable x = withBits (2 ^ 20) (2 ^ 21) satisfied satisfiable x

@@ -53,7 +53,7 @@ pub record Told (rule : ℕ) (t r : List ℕ) (answer : ℕ) : Type 0 where
   pub judged : Judged rule t r verdict
   pub told : answer ≡ packedVerdict verdict
 
--- whether a pattern is satisfied: number 0, step 0, and as its plan 1 for satisfied and 2 for satisfiable
+-- whether a pattern is satisfied: number 0, step 0, and as its plan 1 for satisfied plus 2 for satisfiable, so that 1 is never alone
 abbrev pub packedJudgement : Judgement → ℕ
 packedJudgement (judgement.Satisfied t1 t2) = packed 0 0 (1 + 2)
 packedJudgement judgement.Satisfiable = packed 0 0 2
@@ -72,11 +72,12 @@ pub record NormalTold (l m : List ℕ) (answer : ℕ) : Type 0 where
   pub normalised : Normalised l outcome m
   pub told : answer ≡ packedOutcome outcome
 
--- the pattern that a number stands for: of a condition its bit, and 6 of if-then-else
+-- the pattern that a number stands for: of a condition its bit, and 6 of if-then-else (`withAnswer` asks it of no higher number)
 abbrev pub patternOf : ℕ → Pattern
 patternOf condition = getD (Of Filter ∷ Of Setup ∷ Of Suspend ∷ Of Reactivate ∷ Of Abort ∷ Of Complete ∷ []) condition If
 
--- a word with what was answered of a condition's pattern; as it was where the answer is a refusal or no condition has the number
+-- a word with what asbru_pattern answered of a condition; as it was where the answer's number is not 0 or no condition has this number. Of
+-- any other call's answer with number 0 it would read the same two bits
 abbrev pub withAnswer : ℕ → ℕ → ℕ → ℕ
 withAnswer word condition answer =
     cond (eqb (answer % 2 ^ 16) 0 && leb condition 6) (withPattern (patternOf condition) (isSet 16 answer) (isSet 17 answer) word) word

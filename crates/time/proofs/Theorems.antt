@@ -52,6 +52,18 @@ read-back a n =
       code-back (a .reference) (n .reference),
     )
 
+-- so the numbers that normalising leaves admit the same intervals as those that were handed in
+pub normalised-same :
+    (l m : List ℕ) → Normalised l Done m → (origin t1 t2 : ℕ)
+    → (Admits origin (annotationOf l) t1 t2 → Admits origin (annotationOf m) t1 t2)
+    × (Admits origin (annotationOf m) t1 t2 → Admits origin (annotationOf l) t1 t2)
+normalised-same l m (done ranged some inside) origin t1 t2 =
+    subst
+    (λ (n : Annotation). (Admits origin (annotationOf l) t1 t2 → Admits origin n t1 t2)
+    × (Admits origin n t1 t2 → Admits origin (annotationOf l) t1 t2))
+    (sym (read-back (normal (annotationOf l)) (near-all (normal (annotationOf l)) inside)))
+    (same-intervals (annotationOf l) ranged origin t1 t2)
+
 -- what normalising leaves is normalised to itself
 again :
     (a : Annotation) → annotationInRange a ≡ true → Possible a → annotationInRange (normal a) ≡ true

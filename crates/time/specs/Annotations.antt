@@ -1,7 +1,8 @@
 -- Documents 001 and 003: what a time annotation says, and the intervals that it admits. Assumes nothing.
 --
--- Minutes are counted from 4,000,000,000 minutes before minute 0, so that all are numbers from 0: minute z is the number z + base, and
--- so is a shift or a duration of z minutes. No sum has a minus: `r + v ≤ t + base` is what (r - base) + (v - base) ≤ t - base comes to.
+-- Minutes are counted from 4,000,000,000 minutes before minute 0, so that all that are handed in are numbers from 0: minute z is the number
+-- z + base, and so is a shift or a duration of z minutes. Nothing is subtracted: that the reference point r plus a shift v is not after t,
+-- (r - base) + (v - base) ≤ t - base, is said as r + v + base ≤ t + (base + base).
 use Prim.Native.Nat.{ℕ, _+_, _*_, _%_, _^_, _≤_}
 use mathlib.Core.Path.{_≡_}
 use mathlib.Core.Bool.{Bool, true, cond, _&&_}
@@ -25,7 +26,8 @@ none = 2 ^ 63
 abbrev pub boundOf : ℕ → Bound
 boundOf x = cond (eqb x none) Open (At (counted x))
 
--- seven numbers: earliest and latest start, earliest and latest finish, least and greatest duration, reference point
+-- seven numbers: earliest and latest start, earliest and latest finish, least and greatest duration, reference point; a contract hands in
+-- exactly seven
 abbrev pub annotationOf : List ℕ → Annotation
 annotationOf l =
     record {
@@ -59,8 +61,8 @@ annotationInRange a =
     && inRange (a .reference)
 
 -- A minute t against the reference point r plus a shift. An interval is not held to the range, nor to any first minute: `origin` is the
--- place of minute 0 on the line of minutes that t is counted on, and a line with its origin far enough out shows any interval. Elsewhere
--- it is `base`. An open bound asks nothing, and excuses nothing.
+-- place of minute 0 on the line of minutes that t is counted on, and a line with its origin far enough out shows any interval. Where only
+-- minutes that a history speaks of matter it is `base`. An open bound asks nothing, and excuses nothing.
 abbrev pub NotSooner : ℕ → ℕ → Bound → ℕ → Type 0
 NotSooner origin r Open t = Unit
 NotSooner origin r (At v) t = r + v + origin ≤ t + (base + base)
@@ -78,7 +80,7 @@ abbrev pub NotLonger : Bound → ℕ → ℕ → Type 0
 NotLonger Open t1 t2 = Unit
 NotLonger (At v) t1 t2 = t2 + base ≤ t1 + v
 
--- 003, section 13.2, the first six criteria for the interval from t1 to t2, in their order
+-- the interval from t1 to t2 (001: t1 ≤ t2), and of 003, section 13.2, the first six criteria for it, in their order
 pub record Admits (origin : ℕ) (a : Annotation) (t1 t2 : ℕ) : Type 0 where
   pub ordered : t1 ≤ t2
   pub long : t1 + a .least ≤ t2 + base

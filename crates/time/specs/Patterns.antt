@@ -59,7 +59,8 @@ module _ (h : List ℕ) (asked : ℕ) where
 pub record Satisfies (a : Annotation) (τ : ℕ → Bool) (t1 t2 : ℕ) : Type 0 where
   pub holds : (m : ℕ) → t1 ≤ m → m ≤ t2 → τ m ≡ true
   pub admits : Admits base a t1 t2
-  -- not true directly before, or the start is the earliest starting shift plus the reference point
+  -- not true directly before (at the minute m with m + 1 ≡ t1; place 0 of the line has none before it), or the start is the earliest
+  -- starting shift plus the reference point
   pub starts : ((m : ℕ) → m + 1 ≡ t1 → τ m ≡ false) ⊎ Exactly base (a .reference) (a .ess) t1
   -- not true directly after, or the finish is the latest finishing shift plus the reference point
   pub ends : τ (t2 + 1) ≡ false ⊎ Exactly base (a .reference) (a .lfs) t2
@@ -70,7 +71,8 @@ pub record Satisfied (a : Annotation) (τ : ℕ → Bool) : Type 0 where
   pub t2 : ℕ
   pub satisfies : Satisfies a τ t1 t2
 
--- satisfiable: there is a continuation of the history, until some later minute, that is satisfied
+-- satisfiable: there is a continuation of the history, until the minute of asking or any later one, that is satisfied. Neither the range
+-- nor the number of samples holds it
 pub record Satisfiable (a : Annotation) (τ : ℕ → Bool) (asked : ℕ) : Type 0 where
   pub until : ℕ
   pub later : ℕ → Bool
