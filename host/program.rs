@@ -1,6 +1,5 @@
-//! What lines.rs and trees.rs share: their command line, and a program that is started on an input.
+//! What lines.rs, questions.rs and trees.rs share: their command line, and a program that is started on an input.
 
-use crate::reference::Answer;
 use std::io::Write;
 use std::process::{Command, Stdio};
 
@@ -31,7 +30,7 @@ impl Options {
     }
 }
 
-/// What the program prints for an input. Both programs read all that they take before they print.
+/// What the program prints for an input. The programs read all that they take before they print.
 pub fn printed(program: &[String], input: &[u8]) -> String {
     let mut process = Command::new(&program[0])
         .args(&program[1..])
@@ -48,7 +47,7 @@ pub fn printed(program: &[String], input: &[u8]) -> String {
 }
 
 /// The line of a refusal, with its end: "`refused number step plan`".
-pub fn refusal_line(answer: Answer) -> String {
+pub fn refusal_line(answer: u64) -> String {
     let (number, plan, step) = (answer & 0xFFFF, answer >> 16 & 0xFFFF, answer >> 32);
     format!("refused {number} {step} {plan}\n")
 }

@@ -112,7 +112,9 @@
  * satisfiable exactly where the history can go on after the minute of asking, in some way and as long as need be, such that it is
  * satisfied. What is satisfied is satisfiable.
  *   So a host that asks every condition's pattern and puts the answers into words by asbru_with_pattern hands in no word that number 12
- * refuses for being satisfied but not satisfiable.
+ * refuses for being satisfied but not satisfiable. A host that counts from now hands in the minute of asking as the reference point: where
+ * nothing may finish after it, what is not satisfied is not satisfiable either, since the past stays as it is, and a filter or setup then
+ * Rejects its plan.
  *
  *
  * ANSWERS
@@ -295,7 +297,7 @@ enum asbru_answer {
     /* [plan, step] no picks lead to the states shown: this plan is the lowest p of which no picks explain plans 0 to p, in the first step
        where that is so; only of asbru_check */
     ASBRU_REFUSED_UNEXPLAINED = 15,
-    /* the input is over 65536 bytes: of the program `aprcheck`, never of these functions */
+    /* the input is over 65536 bytes: of the programs `aprcheck` and `aptime`, never of these functions */
     ASBRU_REFUSED_INPUT_LONG = 16,
     /* the rule number is neither 1 nor 2; looked for before all else */
     ASBRU_REFUSED_RULE_NUMBER = 17,

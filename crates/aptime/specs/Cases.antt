@@ -104,18 +104,18 @@ unfolding decimalTo
 wrongPrints = refl
 
 wardPrints :
-    answerText (Satisfied 3999999940 4000000060) Done (minus 120 ∷ noBound ∷ 0 ∷ 0 ∷ 120 ∷ 120 ∷ 60 ∷ [])
-    ≡ text "satisfied by -60 .. 60\nsatisfiable\nnormal form:\nstart -120 .. _\nfinish 0 .. 0\nlasts 120 .. 120\nfrom 60\n"
+    answerText (Satisfied 3999999940 4000000060) Done (minus 120 ∷ minus 120 ∷ 0 ∷ 0 ∷ 120 ∷ 120 ∷ 60 ∷ [])
+    ≡ text "satisfied by -60 .. 60\nsatisfiable\nnormal form:\nstart -120 .. -120\nfinish 0 .. 0\nlasts 120 .. 120\nfrom 60\n"
 unfolding decimalTo shiftsText durationsText
 wardPrints = refl
 
--- a normal form reads as what it prints
-wardNormal : List ℕ
-wardNormal = minus 120 ∷ noBound ∷ 0 ∷ 0 ∷ 120 ∷ 120 ∷ 60 ∷ []
+-- a form, here with an open bound, reads as what it prints
+someForm : List ℕ
+someForm = minus 120 ∷ noBound ∷ 0 ∷ 0 ∷ 120 ∷ 120 ∷ 60 ∷ []
 
 readsBack :
-    saidIn (shiftsText wardNormal ++ durationsText wardNormal ++ text "asked -7\n")
+    saidIn (shiftsText someForm ++ durationsText someForm ++ text "asked -7\n")
     ≡ whole (minus 120 ∷ noBound ∷ 0 ∷ 0 ∷ 120 ∷ 120 ∷ 60 ∷ minus 7 ∷ []) []
-unfolding wardNormal decimalTo shiftsText durationsText
+unfolding someForm decimalTo shiftsText durationsText
     run trimmed word after same natural number bound truth lines bounds one at singleKeyword keyword headOf says readFrom saidIn
 readsBack = refl
