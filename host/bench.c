@@ -1,14 +1,15 @@
 /*
  * Times asbru_check and asbru_step beside host/plain.c, a tuned C implementation without proofs, on the same tables and accepted
  * records in one run, and prints for each number of plans the nanoseconds for a plan and step, the record's bytes a second, and the
- * ratio of the two. The two take turns, and the best of several turns counts. All go by rule 2. Then, behind an empty line, asbru_pattern
- * beside host/plain_held.c in the same way, with the nanoseconds for a sample.
+ * ratio of the two. The two take turns, and the best of several turns counts. All go by rule 2. Then, behind an empty line, the library
+ * under such a table beside itself under the same plans in version 2, and behind another asbru_pattern beside host/plain_held.c in the
+ * same way, with the nanoseconds for a sample.
  *
  *   bench [MOST STEPS]
  *
  * host/places compiles it with -DWITHOUT_RULE for an archive of ASBRU_VERSION 1 or 2, whose functions take no rule. Such an archive knows
  * rule 1 only, and here the two agree: no plan is named, and all wait numbers are 0. For one without asbru_pattern, of a version before 4,
- * it compiles it with -DWITHOUT_PATTERN.
+ * it compiles it with -DWITHOUT_PATTERN. Of one that refuses tables of version 2 the rows on them are left out.
  */
 #define _POSIX_C_SOURCE 199309L
 #include <stdio.h>
@@ -20,6 +21,7 @@
 #include "plain.h"
 
 enum { TURNS = 25, MOST_PLANS = 256, HISTORIES = 64 };
+enum { NODE = 4, MOST_TABLE = 8 + 8 * MOST_PLANS, MOST_MOVED = MOST_TABLE + 2 + NODE * MOST_PLANS };
 
 static uint64_t seed = 88172645463325252ull;
 
@@ -72,6 +74,22 @@ static void make_table(uint8_t *table, unsigned n, uint16_t *parents) {
     }
 }
 
+/* The same table in version 2: one node "at least m named children" for each plan with children, in plan order. Returns its length. */
+static size_t move_table(uint8_t *moved, const uint8_t *table, unsigned n) {
+    uint8_t *count = moved + 8 + 8 * (size_t)n, *node = count + 2;
+    memcpy(moved, table, 8 + 8 * (size_t)n);
+    moved[3] = 2;
+    memset(count, 0, 2);
+    for (uint8_t *e = moved + 8; e < count; e += 8) {
+        if (e[2] == ASBRU_LEAF) continue;
+        const uint8_t at_least[NODE] = {5, e[7], 0, 0};
+        memcpy(node, at_least, NODE);
+        node += NODE;
+        e[7] = count[0]++;
+    }
+    return (size_t)(node - moved);
+}
+
 /* The words of one step: one plan in 256 is told to abort, and one in 64 of the lower ones to complete. */
 static void make_words(uint8_t *words, unsigned n, const uint16_t *parents) {
     memset(words, 0, 4 * (size_t)n);
@@ -103,20 +121,20 @@ static uint64_t library_check(uint32_t rule, const uint8_t *t, size_t t_length, 
 #define library_check asbru_check
 #endif
 
-static double time_check(Check *check, const uint8_t *table, unsigned n, const uint8_t *record, unsigned steps) {
+static double time_check(Check *check, const uint8_t *table, size_t length, unsigned n, const uint8_t *record, unsigned steps) {
     double begun = nanoseconds();
-    uint64_t answer = check(ASBRU_RULE_2, table, 8 + 8 * (size_t)n, record, 8 + 5 * (size_t)n * steps);
+    uint64_t answer = check(ASBRU_RULE_2, table, length, record, 8 + 5 * (size_t)n * steps);
     double took = nanoseconds() - begun;
     need(answer == (uint64_t)steps << 32, "a record is not accepted");
     return took;
 }
 
 /* One call for each step of the record. */
-static double time_step(Step *step, const uint8_t *table, unsigned n, const uint8_t *record, unsigned steps) {
+static double time_step(Step *step, const uint8_t *table, size_t length, unsigned n, const uint8_t *record, unsigned steps) {
     uint8_t states[MOST_PLANS] = {0};
     double begun = nanoseconds();
     for (unsigned i = 0; i < steps; i++) {
-        uint64_t answer = step(ASBRU_RULE_2, table, 8 + 8 * (size_t)n, states, n, record + 8 + 5 * (size_t)n * i, 4 * (size_t)n);
+        uint64_t answer = step(ASBRU_RULE_2, table, length, states, n, record + 8 + 5 * (size_t)n * i, 4 * (size_t)n);
         need(answer == 0, "a step is refused");
     }
     return nanoseconds() - begun;
@@ -126,8 +144,9 @@ static double least(double a, double b) {
     return a < b ? a : b;
 }
 
-static void measure(unsigned n, unsigned steps) {
-    uint8_t table[8 + 8 * MOST_PLANS], states[MOST_PLANS] = {0};
+/* A table of n plans, and a record of so many steps under it, which the caller frees. */
+static uint8_t *make_record(uint8_t *table, unsigned n, unsigned steps) {
+    uint8_t states[MOST_PLANS] = {0};
     uint16_t parents[MOST_PLANS];
     make_table(table, n, parents);
     uint8_t *record = (uint8_t *)malloc(8 + 5 * (size_t)n * steps);
@@ -140,18 +159,56 @@ static void measure(unsigned n, unsigned steps) {
         need(plain_step(ASBRU_RULE_2, table, 8 + 8 * (size_t)n, states, n, words, 4 * (size_t)n) == 0, "a step is refused");
         memcpy(words + 4 * (size_t)n, states, n);
     }
+    return record;
+}
+
+/* So many steps are made one by one. */
+static unsigned single_steps(unsigned steps) {
+    return steps < 2000 ? steps : 2000;
+}
+
+static void measure(unsigned n, unsigned steps) {
+    uint8_t table[MOST_TABLE];
+    uint8_t *record = make_record(table, n, steps);
     double check = 1e18, plain = 1e18, step = 1e18, plain_one = 1e18;
-    unsigned calls = steps < 2000 ? steps : 2000;
+    size_t length = 8 + 8 * (size_t)n;
+    unsigned calls = single_steps(steps);
     for (int turn = 0; turn < TURNS; turn++) {
-        check = least(check, time_check(library_check, table, n, record, steps));
-        plain = least(plain, time_check(plain_check, table, n, record, steps));
-        step = least(step, time_step(library_step, table, n, record, calls));
-        plain_one = least(plain_one, time_step(plain_step, table, n, record, calls));
+        check = least(check, time_check(library_check, table, length, n, record, steps));
+        plain = least(plain, time_check(plain_check, table, length, n, record, steps));
+        step = least(step, time_step(library_step, table, length, n, record, calls));
+        plain_one = least(plain_one, time_step(plain_step, table, length, n, record, calls));
     }
     double plans = (double)n * steps, moved = (double)n * calls;
     printf("| %u | %u | %.1f | %.1f | %.2f | %.0f | %.1f | %.1f | %.2f |\n", n, steps, check / plans, plain / plans, check / plain,
            5 * plans / check * 1e3, step / moved, plain_one / moved, step / plain_one);
     free(record);
+}
+
+/* The library under a table of version 1, and under the same in version 2. */
+static void measure_versions(unsigned n, unsigned steps) {
+    uint8_t table[MOST_TABLE], moved[MOST_MOVED];
+    uint8_t *record = make_record(table, n, steps);
+    const uint8_t *tables[2] = {table, moved};
+    size_t lengths[2] = {8 + 8 * (size_t)n, move_table(moved, table, n)};
+    double check[2] = {1e18, 1e18}, step[2] = {1e18, 1e18};
+    unsigned calls = single_steps(steps);
+    for (int turn = 0; turn < TURNS; turn++) {
+        for (int k = 0; k < 2; k++) {
+            check[k] = least(check[k], time_check(library_check, tables[k], lengths[k], n, record, steps));
+            step[k] = least(step[k], time_step(library_step, tables[k], lengths[k], n, record, calls));
+        }
+    }
+    double plans = (double)n * steps, moves = (double)n * calls;
+    printf("| %u | %u | %.1f | %.1f | %.2f | %.1f | %.1f | %.2f |\n", n, steps, check[0] / plans, check[1] / plans, check[1] / check[0],
+           step[0] / moves, step[1] / moves, step[1] / step[0]);
+    free(record);
+}
+
+/* Whether the library reads tables of version 2. */
+static int knows_version_2(void) {
+    static const uint8_t leaf[18] = {'A', 'P', 'T', 2, 0, 1, 0, 0, 0xFF, 0xFF};
+    return asbru_number(library_check(ASBRU_RULE_2, leaf, sizeof leaf, NULL, 0)) == ASBRU_REFUSED_RECORD_HEADER;
 }
 
 typedef uint64_t Pattern(const int64_t *, const int64_t *, size_t, int64_t);
@@ -200,6 +257,12 @@ int main(int argc, char **argv) {
     printf("| plans | steps | check, ns | plain C | ratio | check, MB/s | step, ns | plain C | ratio |\n");
     printf("|---|---|---|---|---|---|---|---|---|\n");
     for (int k = 0; k < 4; k++) measure(plans[k], most);
+    if (knows_version_2()) {
+        printf("\n| plans | steps | check, version 1, ns | version 2 | ratio | step, version 1, ns | version 2 | ratio |\n");
+        printf("|---|---|---|---|---|---|---|---|\n");
+        measure_versions(16, most);
+        measure_versions(256, most);
+    }
 #ifndef WITHOUT_PATTERN
     printf("\n| samples | true | pattern, ns | plain C | ratio |\n|---|---|---|---|---|\n");
     measure_pattern(1);

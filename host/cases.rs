@@ -5,7 +5,8 @@
 //! choices come from one seeded `Dice`, so a seed and a call's number name a call for good.
 
 use crate::dice::Dice;
-use crate::reference::{self, Before, Plan, Rule};
+use crate::formula_cases::{self, Manner, ALL_MANNERS};
+use crate::reference::{self, Before, Formula, Plan, Rule};
 
 // ------------------------------------------------------------------------------------------------
 // Calls
@@ -150,6 +151,8 @@ struct Style {
     plain_root: usize,
     /// How high m tends to be.
     wait: Wait,
+    /// What the formulas of version 2 can be like.
+    manners: &'static [Manner],
 }
 
 #[derive(Clone, Copy)]
@@ -173,6 +176,7 @@ const GENTLE: Style = Style {
     overridable: 0,
     plain_root: 0,
     wait: Wait::All,
+    manners: &[Manner::Counting],
 };
 
 /// Bodies for two wherever they fit, in plans that go on until they are told to complete.
@@ -184,6 +188,8 @@ fn style_of_turns(dice: &mut Dice) -> Style {
         wait: dice.one_of(&[Wait::Zero, Wait::Zero, Wait::Low]),
         present: dice.one_of(&[30, 100]),
         manual: 0,
+        // a formula that asks for one of the two would mostly end the plan with its first turn
+        manners: &[Manner::Counting, Manner::Counting, Manner::Counting, Manner::Any],
         ..any_style(dice)
     }
 }
@@ -193,7 +199,8 @@ fn style_of_losses(dice: &mut Dice) -> Style {
     Style {
         body: None,
         for_two: 0,
-        retry: dice.one_of(&[0, 50, 100, 100]),
+        retry: dice.one_of(&[0, 0, 50, 100, 100]),
+        optional: dice.one_of(&[0, 0, 0, 50]),
         named: dice.one_of(&[70, 100]),
         present: dice.one_of(&[30, 60, 100]),
         complete: 100,
@@ -226,6 +233,7 @@ fn any_style(dice: &mut Dice) -> Style {
         overridable: dice.one_of(&[0, 0, 30, 100]),
         plain_root: 70,
         wait: dice.one_of(&[Wait::Zero, Wait::Low, Wait::Any, Wait::All]),
+        manners: &ALL_MANNERS,
     }
 }
 
@@ -247,8 +255,22 @@ fn body_for_two(dice: &mut Dice) -> u8 {
     dice.between(reference::ON_ABORT.into(), reference::IF_THEN_ELSE.into()) as u8
 }
 
-/// A table of these parents. It passes the checks unless the parents themselves break a rule.
+/// A table of these parents, half of them of version 2. It passes the checks unless the parents themselves break a rule.
 fn table_of(dice: &mut Dice, parents: &[usize], style: &Style) -> Vec<u8> {
+    let table = table_of_version_1(dice, parents, style);
+    in_either_version(dice, table, style.manners)
+}
+
+/// A table of version 1, or one of version 2 with the same plans.
+fn in_either_version(dice: &mut Dice, mut table: Vec<u8>, manners: &[Manner]) -> Vec<u8> {
+    // some tables are of version 2 from the start: in all it is half of them
+    if dice.percent(42) {
+        formula_cases::add_formulas(dice, &mut table, manners);
+    }
+    table
+}
+
+fn table_of_version_1(dice: &mut Dice, parents: &[usize], style: &Style) -> Vec<u8> {
     let n = parents.len();
     let has_children = |p: usize| parents.contains(&p);
     let bodies: Vec<u8> = (0..n)
@@ -313,10 +335,24 @@ pub fn plan_count(dice: &mut Dice) -> usize {
 }
 
 pub fn good_table(dice: &mut Dice, n: usize) -> Vec<u8> {
+    let table = good_table_of_version_1(dice, n);
+    in_either_version(dice, table, &ALL_MANNERS)
+}
+
+fn good_table_of_version_1(dice: &mut Dice, n: usize) -> Vec<u8> {
     let shape = dice.one_of(&SHAPES);
     let parents = parents(dice, n, shape, reference::MOST_CHILDREN);
     let style = any_style(dice);
-    table_of(dice, &parents, &style)
+    table_of_version_1(dice, &parents, &style)
+}
+
+/// A small table of version 2 with nodes of all kinds, which are broken somewhere.
+pub fn table_of_broken_formulas(dice: &mut Dice) -> Vec<u8> {
+    let n = dice.between(3, 9);
+    let mut table = good_table_of_version_1(dice, n);
+    formula_cases::add_formulas(dice, &mut table, &[Manner::Any]);
+    spoil_formulas(dice, &mut table);
+    table
 }
 
 /// A small table of bodies for two.
@@ -327,14 +363,34 @@ fn table_of_turns(dice: &mut Dice) -> Vec<u8> {
     table_of(dice, &parents, &style)
 }
 
-/// A small table of plans that could lose their children: leaves, some of which are slowly selected, wait to be aborted or completed; the
-/// others can be suspended, and few of them aborted.
+/// A small table of plans that could lose their children.
 fn table_of_losses(dice: &mut Dice) -> Vec<u8> {
     let n = dice.between(3, 9);
     let shape = dice.one_of(&[Shape::Bushy, Shape::Mixed, Shape::Twos]);
+    let table = plans_of_losses(dice, n, shape);
+    in_either_version(dice, table, &ALL_MANNERS)
+}
+
+/// The same, of version 2: a plan or two whose formulas ask for some of their few children and not for others. Many are unordered, so that
+/// children in selection and in execution can be lost at once.
+fn table_of_waits(dice: &mut Dice) -> Vec<u8> {
+    let n = dice.between(3, 6);
+    let shape = dice.one_of(&[Shape::Wide, Shape::Wide, Shape::Twos]);
+    let mut table = plans_of_losses(dice, n, shape);
+    if dice.percent(60) {
+        table[HEADER + 2] = reference::UNORDERED;
+    }
+    let manners = [Manner::EitherWay, Manner::BothOrNone, Manner::BothOrNone, Manner::Any];
+    formula_cases::add_formulas(dice, &mut table, &manners);
+    table
+}
+
+/// Leaves, some of which are slowly selected, wait to be aborted or completed; the others can be suspended, and few of them aborted. Of
+/// version 1.
+fn plans_of_losses(dice: &mut Dice, n: usize, shape: Shape) -> Vec<u8> {
     let parents = parents(dice, n, shape, reference::MOST_CHILDREN);
     let style = style_of_losses(dice);
-    let mut table = table_of(dice, &parents, &style);
+    let mut table = table_of_version_1(dice, &parents, &style);
     for entry in table[HEADER..].chunks_exact_mut(ENTRY) {
         let selection = 1 << reference::FILTER | 1 << reference::SETUP;
         let (present, absent): (u8, u8) = match (entry[2], dice.below(10)) {
@@ -351,7 +407,7 @@ fn table_of_losses(dice: &mut Dice) -> Vec<u8> {
 
 /// Whether the two rules could differ on a plan: it retries and waits for some of its children.
 pub fn may_part_the_rules(plan: &Plan) -> bool {
-    plan.flags >> reference::RETRY_ABORTED & 1 == 1 && plan.wait_number > 0
+    plan.flags >> reference::RETRY_ABORTED & 1 == 1 && plan.wait_for != Formula::AtLeast(0)
 }
 
 fn read_good_table(table: &[u8]) -> Vec<Plan> {
@@ -386,11 +442,22 @@ pub fn spoil_table(dice: &mut Dice, table: &mut Vec<u8>) {
         20..=27 => spoil_length(dice, table),
         28..=29 => *table = table_with_65_children(dice),
         30 => *table = table_of_257_plans(dice),
+        31..=64 if formula_cases::is_of_version_2(table) => spoil_formulas(dice, table),
         _ => spoil_entry(dice, table),
     }
 }
 
-/// One byte of the header of a table or record, by a bit or as a whole; or a plan count near by.
+/// Breaks the formulas in one place, at times in two, or a plan besides.
+fn spoil_formulas(dice: &mut Dice, table: &mut Vec<u8>) {
+    formula_cases::spoil_nodes(dice, table);
+    match dice.below(10) {
+        0..=2 => formula_cases::spoil_nodes(dice, table),
+        3 => spoil_entry(dice, table),
+        _ => {}
+    }
+}
+
+/// One byte of the header of a table or record, by a bit or as a whole; or another version; or a plan count near by.
 fn spoil_header(dice: &mut Dice, bytes: &mut [u8]) {
     if bytes.len() < HEADER {
         return;
@@ -399,6 +466,11 @@ fn spoil_header(dice: &mut Dice, bytes: &mut [u8]) {
     if dice.percent(30) {
         let other = dice.one_of(&[0, 1, n.wrapping_sub(1), n.wrapping_add(1), 256, 257, 65_535]);
         bytes[5..7].copy_from_slice(&other.to_le_bytes());
+        return;
+    }
+    if dice.percent(20) {
+        let version: u16 = dice.one_of(&[0, 1, 2, 3, 3, 256, 257, 258]);
+        bytes[3..5].copy_from_slice(&version.to_le_bytes());
         return;
     }
     let at = dice.below(HEADER);
@@ -418,15 +490,22 @@ fn spoil_length(dice: &mut Dice, bytes: &mut Vec<u8>) {
     }
 }
 
+/// The number of plans whose entries are all there.
+fn whole_entries(table: &[u8]) -> usize {
+    let after_header = table.len().saturating_sub(HEADER) / ENTRY;
+    let counted = if table.len() < HEADER { 0 } else { reference::number_of_16_bits(table, 5) };
+    after_header.min(counted)
+}
+
 /// One field of one plan's entry.
 fn spoil_entry(dice: &mut Dice, table: &mut [u8]) {
-    let entries = table.len().saturating_sub(HEADER) / ENTRY;
+    let entries = whole_entries(table);
     if entries == 0 {
         return;
     }
     let p = if dice.percent(15) { 0 } else { dice.below(entries) };
     let entry = &mut table[HEADER + ENTRY * p..HEADER + ENTRY * (p + 1)];
-    match dice.below(11) {
+    match dice.below(12) {
         0 => {
             let parent = dice.one_of(&[p, p + 1, p.saturating_sub(2), p / 2, 256, 65_535]) as u16;
             entry[0..2].copy_from_slice(&parent.to_le_bytes());
@@ -440,7 +519,7 @@ fn spoil_entry(dice: &mut Dice, table: &mut [u8]) {
         6 => entry[7] = entry[7].wrapping_add(1),
         7 => entry[7] = dice.byte(),
         // A body for two children, however many there are, or one that retries.
-        8 | 9 => {
+        8..=10 => {
             entry[2] = body_for_two(dice);
             entry[3] |= u8::from(dice.percent(50)) << reference::RETRY_ABORTED;
         }
@@ -466,6 +545,7 @@ pub fn mood(dice: &mut Dice) -> Mood {
     mood_of(number)
 }
 
+const CALM: usize = 0;
 const INTERRUPTED: usize = 2;
 const ABORTING: usize = 3;
 const LOSING: usize = 8;
@@ -473,7 +553,7 @@ const LOSING: usize = 8;
 fn mood_of(number: usize) -> Mood {
     let (satisfied, satisfiable, triggered, overridden) = match number {
         // All goes well.
-        0 | 1 => ([90, 90, 3, 70, 2, 40], 97, 80, 5),
+        CALM | 1 => ([90, 90, 3, 70, 2, 40], 97, 80, 5),
         // Many interruptions.
         INTERRUPTED => ([85, 85, 30, 50, 3, 20], 97, 80, 5),
         // Many aborts.
@@ -695,7 +775,7 @@ fn good_record(dice: &mut Dice, rule: Rule, plans: &[Plan], story: Story, steps:
     let next_mood = |dice: &mut Dice| match story {
         Story::Any => mood(dice),
         Story::Turns => mood_of(dice.one_of(&[INTERRUPTED, ABORTING])),
-        Story::Losses => mood_of(LOSING),
+        Story::Losses => mood_of(dice.one_of(&[LOSING, LOSING, LOSING, CALM])),
     };
     let mut temper = next_mood(dice);
     for _ in 0..steps {
@@ -705,6 +785,7 @@ fn good_record(dice: &mut Dice, rule: Rule, plans: &[Plan], story: Story, steps:
         let mut words = good_words(dice, plans, &temper);
         if matches!(story, Story::Losses) {
             strike(dice, plans, &states, &mut words);
+            tell_losers(dice, plans, &states, &mut words);
         }
         states = reference::new_states(&Before { rule, plans, states: &states, words: &words });
         let without_picks: Vec<u32> = words.iter().map(|&word| with_pick(word, 0)).collect();
@@ -715,17 +796,21 @@ fn good_record(dice: &mut Dice, rule: Rule, plans: &[Plan], story: Story, steps:
 }
 
 /// At times all goes wrong at once for a leaf in execution and its siblings: those in execution are aborted, and those in selection, if
-/// there are any, are rejected.
+/// there are any, are rejected; and at times their parent is told to suspend.
 fn strike(dice: &mut Dice, plans: &[Plan], states: &[u8], words: &mut [u32]) {
     let at_work = |&p: &usize| plans[p].body == reference::LEAF && reference::in_execution(states[p]);
     let parents: Vec<usize> = (0..plans.len()).filter(at_work).filter_map(|p| plans[p].parent).collect();
     if parents.is_empty() {
         return;
     }
-    let children = &plans[dice.one_of(&parents)].children;
+    let parent = dice.one_of(&parents);
+    let children = &plans[parent].children;
     let some_in_selection = children.iter().any(|&child| reference::in_selection(states[child]));
-    if !dice.percent(if some_in_selection { 50 } else { 20 }) {
+    if !dice.percent(if some_in_selection { 60 } else { 15 }) {
         return;
+    }
+    if dice.percent(40) {
+        words[parent] |= 1 << reference::SUSPEND;
     }
     for &child in children {
         if reference::in_execution(states[child]) {
@@ -733,6 +818,21 @@ fn strike(dice: &mut Dice, plans: &[Plan], states: &[u8], words: &mut [u32]) {
         } else {
             // filter and setup: not satisfied, not satisfiable, not overridden
             words[child] &= !(3 | 3 << 6 | 3 << 14);
+        }
+    }
+}
+
+/// A plan in execution that has an Aborted child is at times told to complete or to suspend, or its parent is told to suspend.
+fn tell_losers(dice: &mut Dice, plans: &[Plan], states: &[u8], words: &mut [u32]) {
+    for (p, plan) in plans.iter().enumerate() {
+        let has_lost = plan.children.iter().any(|&child| states[child] == reference::ABORTED);
+        if reference::in_execution(states[p]) && has_lost {
+            match (dice.below(8), plan.parent) {
+                (0 | 1, _) => words[p] |= 1 << reference::COMPLETE,
+                (2, _) => words[p] |= 1 << reference::SUSPEND,
+                (3 | 4, Some(parent)) => words[parent] |= 1 << reference::SUSPEND,
+                _ => {}
+            }
         }
     }
 }
@@ -766,7 +866,7 @@ fn spoil_record(dice: &mut Dice, record: &mut Vec<u8>, plans: &[Plan]) {
         6..=9 => spoil_length(dice, record),
         10 => record.truncate(dice.below(HEADER)),
         11..=34 => spoil_word_in_record(dice, record, plans.len()),
-        35..=49 => spoil_turn(dice, record, plans),
+        35..=54 => spoil_turn(dice, record, plans),
         _ => spoil_state_in_record(dice, record, plans),
     }
 }
@@ -860,6 +960,10 @@ fn spoil_turn(dice: &mut Dice, record: &mut Vec<u8>, plans: &[Plan]) {
         .filter(is_ordered)
         .filter(was_inactive)
         .collect();
+    // a first child's turn comes more often
+    let is_second = |&(_, child): &(usize, usize)| plans[child].parent.is_some_and(|q| plans[q].first_and_second().1 == child);
+    let seconds: Vec<(usize, usize)> = places.iter().copied().filter(is_second).collect();
+    let places = if seconds.is_empty() || dice.percent(40) { places } else { seconds };
     if !places.is_empty() {
         let (states_start, child) = dice.one_of(&places);
         record[states_start + child] = reference::CONSIDERED - shown;
@@ -946,7 +1050,9 @@ impl Maker {
     fn step_call(&mut self) -> Call {
         match self.dice.below(100) {
             0..=19 => return turning_call(&mut self.dice),
-            20..=34 => return losing_call(&mut self.dice),
+            20..=37 => return losing_call(&mut self.dice),
+            38..=43 => return broken_formula_call(&mut self.dice),
+            44..=53 => return deciding_call(&mut self.dice),
             _ => {}
         }
         let chosen = self.dice.below(POOL);
@@ -1005,8 +1111,9 @@ impl Maker {
         let dice = &mut self.dice;
         let n = plan_count(dice);
         let (mut table, story) = match dice.below(100) {
-            0..=29 => (table_of_turns(dice), Story::Turns),
-            30..=59 => (table_of_losses(dice), Story::Losses),
+            0..=26 => (table_of_turns(dice), Story::Turns),
+            27..=54 => (table_of_losses(dice), Story::Losses),
+            55..=76 => (table_of_waits(dice), Story::Losses),
             _ => (good_table(dice, n), Story::Any),
         };
         let story = if dice.percent(80) { story } else { Story::Any };
@@ -1059,7 +1166,7 @@ pub fn check_of(rule: u32, table: Vec<u8>, record: Vec<u8>) -> Call {
 /// above them only plans that cannot complete. Where these need all their children, it is so by rule 2 only.
 fn restless_call(dice: &mut Dice) -> Call {
     let n = dice.between(2, 4);
-    let mut table = good_table(dice, n);
+    let mut table = good_table_of_version_1(dice, n);
     let mut words = Vec::new();
     let plans = read_good_table(&table);
     let needed = dice.percent(50);
@@ -1082,6 +1189,7 @@ fn restless_call(dice: &mut Dice) -> Call {
             words.push(with_pick(0, if any_order { dice.below(plan.children.len()) } else { 0 }));
         }
     }
+    let table = in_either_version(dice, table, &ALL_MANNERS);
     let budget = if dice.percent(50) { 65_535 } else { dice.between(0, 2000) as u16 };
     let states = vec![reference::INACTIVE; n];
     let rule = any_rule(dice).0;
@@ -1112,11 +1220,31 @@ fn losing_call(dice: &mut Dice) -> Call {
     let table = table_of_losses(dice);
     let plans = read_good_table(&table);
     let of_leaves = dice.one_of(&[[7, 7, 3, 6], [7, 7, 0, 5], [7, 8, 7, 6], [7, 4, 3, 0]]);
-    let of_others = dice.one_of(&[[4, 4, 4, 4], [4, 4, 5, 7], [5, 5, 5, 4]]);
+    let of_others = dice.one_of(&[[4, 4, 4, 4], [4, 4, 5, 7], [5, 5, 5, 4], [5, 5, 5, 4]]);
     let states = likely_states(dice, &plans, &of_leaves, &of_others);
     let mood = mood_of(dice.one_of(&[INTERRUPTED, LOSING]));
     let words = bytes_of_words(&good_words(dice, &plans, &mood));
     Call { kind: Kind::Step, rule: any_rule(dice).0, table, states, words, budget: 0, continues: None }
+}
+
+/// A step of plans in execution that mostly are told to complete, where formulas of version 2 decide, over children that have mostly ended.
+fn deciding_call(dice: &mut Dice) -> Call {
+    let table = table_of_waits(dice);
+    let plans = read_good_table(&table);
+    let of_leaves = dice.one_of(&[[6, 6, 7, 0], [6, 7, 8, 3], [7, 7, 3, 0], [7, 8, 7, 8]]);
+    let states = likely_states(dice, &plans, &of_leaves, &[4, 4, 4, 5]);
+    let told = u32::from(dice.percent(80)) << reference::COMPLETE;
+    let calm = mood_of(CALM);
+    let words: Vec<u32> = good_words(dice, &plans, &calm).iter().map(|word| word | told).collect();
+    let words = bytes_of_words(&words);
+    Call { kind: Kind::Step, rule: any_rule(dice).0, table, states, words, budget: 0, continues: None }
+}
+
+/// A step under formulas that are broken somewhere.
+fn broken_formula_call(dice: &mut Dice) -> Call {
+    let table = table_of_broken_formulas(dice);
+    let n = whole_entries(&table);
+    Call { kind: Kind::Step, rule: any_rule(dice).0, table, states: vec![0; n], words: vec![0; 4 * n], budget: 0, continues: None }
 }
 
 /// A long run to rest: down a deep tree and up again.
@@ -1155,13 +1283,14 @@ fn spoil_call(dice: &mut Dice, call: &mut Call, plans: &[Plan]) {
     }
 }
 
-/// The numbers that a call with a good rule can be answered with: checks 1 to 9 are the table's, 10 to 12 of a step and a run, 12 to 15
-/// of a record.
+/// The numbers that a call with a good rule can be answered with: checks 1 to 9 and 22 are the table's, 10 to 12 of a step and a run,
+/// 12 to 15 of a record.
 pub fn numbers_of(kind: Kind) -> Vec<u64> {
+    let of_table = (0..=9).chain([22]);
     if kind == Kind::Check {
-        (0..=9).chain(12..=15).collect()
+        of_table.chain(12..=15).collect()
     } else {
-        (0..=12).collect()
+        of_table.chain(10..=12).collect()
     }
 }
 
@@ -1179,7 +1308,8 @@ fn spoil_for(dice: &mut Dice, number: u64, call: &mut Call) {
         6 => flip(table, HEADER, 0),
         7 => flip(table, HEADER + dice.between(3, 6), 7),
         8 => flip(table, HEADER + 3, reference::NAMED),
-        9 => flip(table, HEADER + 7, 7),
+        9 => formula_cases::spoil_for_9(dice, table),
+        22 => formula_cases::spoil_for_22(dice, table),
         10 => {
             let either = if dice.percent(50) { states } else { words };
             spoil_slice_length(dice, either);

@@ -25,12 +25,13 @@ static const char USAGE[] =
 
 static const char HELP[] =
     "\n"
-    "Settles whether a treatment record (a file with the mark APR) can come from the rules under a plan table (mark APT).\n"
+    "Settles whether a treatment record (a file with the mark APR) can come from the rules under a plan table (mark APT), be\n"
+    "the table of version 1, whose plans wait for a number of sub plans, or of version 2, whose plans wait for a formula.\n"
     "It prints a line as the program aprcheck does, and then one line in words:\n"
     "\n"
     "  accepted PLANS STEPS        for every step some picks lead to the states shown\n"
     "  refused NUMBER STEP PLAN    NUMBER says why: docs/RULES.md, paragraph 10.NUMBER. STEP and PLAN say where, 0 where\n"
-    "                              the paragraph names none\n"
+    "                              the paragraph names none; of NUMBER 22 a node of a formula stands in PLAN's place\n"
     "\n"
     "--all judges every file of a folder, a line for each, and ends with a line that counts them. Names that begin with a\n"
     "dot are passed over, which standard error tells, and so is the table itself. --csv writes the same for a spreadsheet,\n"
@@ -101,8 +102,18 @@ static unsigned u16_at(const uint8_t *bytes, size_t at) {
     return bytes[at] + 256u * bytes[at + 1];
 }
 
+static unsigned version_of(const File *file) {
+    return u16_at(file->bytes, 3);
+}
+
 static unsigned plans_of(const File *file) {
     return u16_at(file->bytes, 5);
+}
+
+/* How many nodes a table counts: none in version 1, nor where it ends before the count. */
+static unsigned nodes_of(const File *table) {
+    size_t at = ASBRU_HEADER + ASBRU_ENTRY * (size_t)plans_of(table);
+    return version_of(table) == ASBRU_FORMAT_2 && table->length >= at + 2 ? u16_at(table->bytes, at) : 0;
 }
 
 /* ---- Looking at the files apart ---- */
@@ -136,19 +147,25 @@ static int begins_as_record(const File *file, Result *result) {
 }
 
 /*
- * Whether a table has the length that its own count of plans asks for. The program finds the table's end in its input by that count, so
- * only then are the two files the table and the record that it judges. A header that the program refuses itself is left to it: it then
- * takes all of its input for the table, and answers 3 or 4 whatever follows.
+ * Whether a table has the length that its own counts of plans and, in version 2, of nodes ask for. The program finds the table's end in its
+ * input by them, so only then are the two files the table and the record that it judges. A header that the program refuses itself is left
+ * to it: it then takes all of its input for the table, and answers 3 or 4 whatever follows.
  */
 static int has_its_length(const File *table, Result *result) {
-    unsigned n = plans_of(table);
-    if (u16_at(table->bytes, 3) != ASBRU_FORMAT || n < 1 || n > ASBRU_MOST_PLANS || table->bytes[7] != 0) return 1;
-    size_t due = ASBRU_HEADER + ASBRU_ENTRY * (size_t)n;
+    unsigned version = version_of(table), n = plans_of(table), nodes = nodes_of(table);
+    if (version < ASBRU_FORMAT || version > ASBRU_FORMAT_2 || n < 1 || n > ASBRU_MOST_PLANS || table->bytes[7] != 0) return 1;
+    size_t end_of_plans = ASBRU_HEADER + ASBRU_ENTRY * (size_t)n;
+    size_t due = version == ASBRU_FORMAT ? end_of_plans : asbru_node_at(n, nodes);
     if (table->length == due) return 1;
+    say(result, "the table has %zu bytes, and its count of plans, %u, ", table->length, n);
+    if (version == ASBRU_FORMAT_2 && table->length < end_of_plans + 2) {
+        say(result, "with the count of nodes behind them, as it is of version 2, ");
+    } else if (version == ASBRU_FORMAT_2) {
+        say(result, "with that of nodes, %u, ", nodes);
+    }
     int more = table->length > due;
     size_t off = more ? table->length - due : due - table->length;
-    say(result, "the table has %zu bytes, and its count of plans, %u, asks for %zu: %zu byte%s too %s", table->length, n, due, off,
-        plural(off), more ? "many" : "few");
+    say(result, "asks for %zu: %zu byte%s too %s", due, off, plural(off), more ? "many" : "few");
     return 0;
 }
 
@@ -208,15 +225,17 @@ static int run_program(char *program, const File *table, const File *record, cha
 }
 
 /*
- * Whether an answer of the program can be about these files: what it counts is so, and what it names is there. Its last number is 15 here:
- * it is handed no more bytes than it takes (16), and names its rule itself (17).
+ * Whether an answer of the program can be about these files: what it counts is so, and what it names is there. Its numbers here are 1 to
+ * 15, and 22 of a table of version 2, which names a node: it is handed no more bytes than it takes (16), and names its rule itself (17).
  */
 static int is_about(const File *table, const File *record, const Result *result) {
     size_t n = plans_of(table), steps = n ? (record->length - ASBRU_HEADER) / asbru_step_size(n) : 0;
     if (result->verdict == ACCEPTED) return result->plan == n && result->step == steps;
+    int of_formula = result->number == ASBRU_REFUSED_FORMULA && version_of(table) == ASBRU_FORMAT_2;
     int names_step = result->number == ASBRU_REFUSED_WORD || result->number == ASBRU_REFUSED_UNEXPLAINED;
-    return result->number >= ASBRU_REFUSED_TABLE_SHORT && result->number <= ASBRU_REFUSED_UNEXPLAINED &&
-           (result->plan == 0 || result->plan < n) && (names_step ? result->step >= 1 && result->step <= steps : result->step == 0);
+    return (of_formula || (result->number >= ASBRU_REFUSED_TABLE_SHORT && result->number <= ASBRU_REFUSED_UNEXPLAINED)) &&
+           (result->plan == 0 || result->plan < (of_formula ? nodes_of(table) : n)) &&
+           (names_step ? result->step >= 1 && result->step <= steps : result->step == 0);
 }
 
 static void judge_by_program(char *program, const File *table, const File *record, Result *result) {
@@ -261,8 +280,8 @@ static void explain_word(Result *result, uint32_t word, unsigned body) {
 
 /* What differs between the header of a record and that of its table. */
 static void explain_header(Result *result, const File *table, const File *record) {
-    if (u16_at(record->bytes, 3) != ASBRU_FORMAT) {
-        say(result, "the record's version is %u, and %d is wanted", u16_at(record->bytes, 3), ASBRU_FORMAT);
+    if (version_of(record) != ASBRU_FORMAT) {
+        say(result, "the record's version is %u, and %d is wanted, whatever the table's", version_of(record), ASBRU_FORMAT);
     } else if (plans_of(record) != plans_of(table)) {
         say(result, "the record is of %u plans, and the table has %u", plans_of(record), plans_of(table));
     } else {
@@ -286,11 +305,128 @@ static void say_state(Result *result, unsigned state) {
     if (state > ASBRU_REJECTED) say(result, " (byte %u)", state);
 }
 
-/* How many children a plan of a table has. */
-static unsigned children_of(const File *table, unsigned plan) {
+/* How many children a plan of a table has, of all or of those with a flag. */
+static unsigned children_with(const File *table, unsigned plan, unsigned flag) {
     unsigned count = 0;
-    for (unsigned p = plan + 1; p < plans_of(table); p++) count += u16_at(entry_of(table, p), 0) == plan;
+    for (unsigned p = plan + 1; p < plans_of(table); p++) {
+        const uint8_t *entry = entry_of(table, p);
+        count += u16_at(entry, 0) == plan && (entry[3] & flag) == flag;
+    }
     return count;
+}
+
+static unsigned children_of(const File *table, unsigned plan) {
+    return children_with(table, plan, 0);
+}
+
+static const uint8_t *node_of(const File *table, size_t node) {
+    return table->bytes + asbru_node_at(plans_of(table), node);
+}
+
+/* How many operands a node has: its a, or its a and b. */
+static unsigned operands_of(const uint8_t *node) {
+    return node[0] == ASBRU_NOT ? 1 : node[0] == ASBRU_AND || node[0] == ASBRU_OR || node[0] == ASBRU_XOR ? 2 : 0;
+}
+
+/* How often a node asks another one. */
+static unsigned asks(const uint8_t *node, unsigned other) {
+    unsigned count = 0;
+    for (unsigned k = 1; k <= operands_of(node); k++) count += node[k] == other;
+    return count;
+}
+
+static int begins_with(const File *table, unsigned plan, unsigned node) {
+    const uint8_t *entry = entry_of(table, plan);
+    return entry[2] != ASBRU_LEAF && entry[7] == node;
+}
+
+/* How often a node is used. */
+static unsigned uses_of(const File *table, unsigned node) {
+    unsigned count = 0;
+    for (unsigned p = 0; p < plans_of(table); p++) count += (unsigned)begins_with(table, p, node);
+    for (unsigned i = 0; i < nodes_of(table); i++) count += asks(node_of(table, i), node);
+    return count;
+}
+
+/* The plan in whose formula a node stands: each is used once, by a plan or by a node of lower number. */
+static unsigned owner_of(const File *table, unsigned node) {
+    for (unsigned i = node; i-- > 0;) {
+        if (asks(node_of(table, i), node)) node = i;
+    }
+    unsigned plan = 0;
+    while (plan + 1 < plans_of(table) && !begins_with(table, plan, node)) plan++;
+    return plan;
+}
+
+/* The lowest plan whose formula's first node is not there, or the number of plans. */
+static unsigned stray_plan(const File *table) {
+    unsigned plan = 0;
+    while (plan < plans_of(table) && (entry_of(table, plan)[2] == ASBRU_LEAF || entry_of(table, plan)[7] < nodes_of(table))) plan++;
+    return plan;
+}
+
+/* What is wrong with an operand of node i, if something is. */
+static int explain_operand(Result *result, const File *table, unsigned i, unsigned operand) {
+    if (operand <= i) {
+        say(result, "it asks node %u, whose number is not above its own", operand);
+    } else if (operand >= nodes_of(table)) {
+        say(result, "it asks node %u, which is not there: the table has %u node%s", operand, nodes_of(table), plural(nodes_of(table)));
+    } else {
+        return 0;
+    }
+    return 1;
+}
+
+/* What is wrong with a node: the first reason of number 22 that is there. */
+static void explain_node(Result *result, const File *table, unsigned i) {
+    const uint8_t *node = node_of(table, i);
+    unsigned operands = operands_of(node), uses = uses_of(table, i), owner = owner_of(table, i);
+    say(result, "node %u, bytes %02X %02X %02X %02X: ", i, node[0], node[1], node[2], node[3]);
+    if (node[0] > ASBRU_AT_LEAST) {
+        say(result, "its kind is %u, and %d is the last", node[0], ASBRU_AT_LEAST);
+    } else if (node[3] != 0) {
+        say(result, "its last byte is %u, and 0 is wanted", node[3]);
+    } else if (operands < 2 && node[2] != 0) {
+        say(result, "its b is %u, and 0 is wanted of kind %u, %s", node[2], node[0], asbru_node_text(node[0]));
+    } else if ((operands > 0 && explain_operand(result, table, i, node[1])) ||
+               (operands > 1 && explain_operand(result, table, i, node[2]))) {
+        return;
+    } else if (uses == 0) {
+        say(result, "nothing uses it: it is neither the first of a formula nor asked by a node");
+    } else if (uses > 1) {
+        say(result, "it is used %u times, and once is right", uses);
+    } else {
+        say(result, "it asks for the child of rank %u, counted from 0, and plan %u, in whose formula it stands, has %u", node[1], owner,
+            children_of(table, owner));
+    }
+}
+
+/* What is wrong with the formulas. Of the whole table, and not of a node, are the count of nodes and the formulas' first nodes. */
+static void explain_formulas(Result *result, const File *table) {
+    unsigned nodes = nodes_of(table), plan = stray_plan(table);
+    if (nodes > ASBRU_MOST_NODES) {
+        say(result, "it counts %u nodes, and %d are the most", nodes, ASBRU_MOST_NODES);
+    } else if (plan < plans_of(table)) {
+        say(result, "the formula of plan %u begins with node %u, which is not there: the table has %u node%s", plan,
+            entry_of(table, plan)[7], nodes, plural(nodes));
+    } else {
+        explain_node(result, table, result->plan);
+    }
+}
+
+/* What a plan waits for in vain: more named children than it has, by its wait number or by a node of its formula. */
+static void explain_wait(Result *result, const File *table) {
+    unsigned plan = result->plan, named = children_with(table, plan, ASBRU_NAMED), node = 0;
+    while (node < nodes_of(table) &&
+           !(node_of(table, node)[0] == ASBRU_AT_LEAST && node_of(table, node)[1] > named && owner_of(table, node) == plan)) {
+        node++;
+    }
+    if (node < nodes_of(table)) {
+        say(result, ": node %u of its formula asks for %u named children", node, node_of(table, node)[1]);
+    } else {
+        say(result, ": its wait number asks for %u named children", entry_of(table, plan)[7]);
+    }
+    say(result, ", and it has %u", named);
 }
 
 /* What is wrong with the entry of a plan; of a body that has exactly two children, whether that is so, and whether it retries. */
@@ -300,7 +436,9 @@ static void explain_entry(Result *result, const File *table) {
     for (size_t k = 0; k < ASBRU_ENTRY; k++) say(result, " %02X", entry[k]);
     int for_two = result->number == ASBRU_REFUSED_UNFIT && entry[2] >= ASBRU_ON_ABORT;
     unsigned children = children_of(table, result->plan);
-    if (for_two && children != 2) {
+    if (result->number == ASBRU_REFUSED_WAIT) {
+        explain_wait(result, table);
+    } else if (for_two && children != 2) {
         say(result, ": its body is %s, which has exactly 2 children, and it has %u", asbru_body_text(entry[2]), children);
     } else if (for_two && entry[3] & ASBRU_RETRY_ABORTED) {
         say(result, ": its body is %s, which does not retry, and retry-aborted is set", asbru_body_text(entry[2]));
@@ -312,7 +450,9 @@ static void explain_entry(Result *result, const File *table) {
 /* What is wrong with the table. */
 static void explain_table(Result *result, const File *table) {
     say(result, "the table is refused, and no record is looked at: ");
-    if (result->number >= ASBRU_REFUSED_PARENT) {
+    if (result->number == ASBRU_REFUSED_FORMULA) {
+        explain_formulas(result, table);
+    } else if (result->number >= ASBRU_REFUSED_PARENT) {
         explain_entry(result, table);
     } else {
         say(result, "%s", asbru_number_text(result->number));

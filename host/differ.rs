@@ -14,10 +14,12 @@
 //! Status 0: N calls were made without a difference and without a move that the rules do not allow,
 //! and, from `REACH_FROM` calls on or as many as `--reach-from` says, they reached every answer number
 //! of the library's, every move of a plan that the rules allow, and all that turns.rs wants of the bodies
-//! 5 to 8 and losses.rs of the two rules. Status 1: anything else.
+//! 5 to 8, losses.rs of the two rules and formulas.rs of the tables of version 2. Status 1: anything else.
 
 mod cases;
 mod dice;
+mod formula_cases;
+mod formulas;
 mod losses;
 mod reference;
 #[cfg(test)]
@@ -121,12 +123,12 @@ impl talk::Call for Call {
 const POSSIBLE_MOVES: [&[usize]; 9] =
     [&[0, 1], &[1, 2, 8], &[2, 3, 8], &[3, 4, 8], &[4, 5, 6, 7], &[4, 5, 7], &[0, 6], &[0, 1, 7], &[0, 8]];
 
-const LAST_NUMBER: usize = 17;
-/// The one number among them that is the program's and no function's.
-const INPUT_LONG: usize = 16;
+const LAST_NUMBER: usize = 22;
+/// The numbers among them that are of none of the three calls: the program's, and those of patterns.
+const OF_OTHERS: [usize; 5] = [16, 18, 19, 20, 21];
 
 fn numbers() -> impl Iterator<Item = usize> {
-    (0..=LAST_NUMBER).filter(|&number| number != INPUT_LONG)
+    (0..=LAST_NUMBER).filter(|number| !OF_OTHERS.contains(number))
 }
 
 #[derive(Default)]
@@ -152,10 +154,13 @@ struct Counts {
     table_sizes: [u64; TREE_SIZES.len()],
     table_widths: [u64; TREE_SIZES.len()],
     table_depths: [u64; TREE_SIZES.len()],
+    /// Tables that say that they are of version 2, and those of them that passed.
+    of_version_2: u64,
+    good_of_version_2: u64,
     told: Told,
 }
 
-/// What was reached of the bodies 5 to 8 and of the two rules, told by lines.
+/// What was reached of the bodies 5 to 8, of the two rules and of the tables of version 2, told by lines.
 #[derive(Default)]
 struct Told {
     orders: Lines,
@@ -167,6 +172,10 @@ struct Told {
     moves_in_records: [Lines; 2],
     answers: Lines,
     wrong_numbers: Lines,
+    truths: Lines,
+    truths_in_records: Lines,
+    tables: Lines,
+    refused_nodes: Lines,
 }
 
 /// Classes of sizes: the name and the largest number in it.
@@ -193,8 +202,11 @@ impl Counts {
     fn add(&mut self, asked: &Asked) {
         let number = number_of(asked.answer);
         self.answers[usize::from(kind_number(asked.call.kind)) - 1][number as usize] += 1;
+        let of_version_2 = u64::from(formula_cases::is_of_version_2(&asked.call.table));
+        self.of_version_2 += of_version_2;
         if matches!(number, 0 | 10..=15) {
             self.add_table(&asked.call.table);
+            self.good_of_version_2 += of_version_2;
         }
         self.told.add(asked);
         match asked.call.kind {
@@ -208,6 +220,7 @@ impl Counts {
     fn add_table(&mut self, table: &[u8]) {
         let parents: Vec<usize> = table[8..]
             .chunks_exact(8)
+            .take(reference::number_of_16_bits(table, 5))
             .map(|entry| usize::from(u16::from_le_bytes([entry[0], entry[1]])))
             .collect();
         let mut children = vec![0; parents.len()];
@@ -285,6 +298,7 @@ impl Counts {
             "  accepted steps in all: {}; accepted records that picks 0 do not explain: {}",
             self.accepted_steps, self.records_with_picks
         );
+        println!("tables of version 2: {}, of them good {}", self.of_version_2, self.good_of_version_2);
         println!("calls on good tables by       plans  most children    depth");
         for (at, (name, _)) in TREE_SIZES.iter().enumerate() {
             let (plans, width, depth) = (self.table_sizes[at], self.table_widths[at], self.table_depths[at]);
@@ -329,7 +343,7 @@ impl Counts {
         }
     }
 
-    /// Every number, every possible move, and what is wanted of the bodies 5 to 8 and of the two rules.
+    /// Every number, every possible move, and what is wanted of the bodies 5 to 8, of the two rules and of tables of version 2.
     fn all_reached(&self) -> Result<(), String> {
         for number in numbers() {
             if self.answers.iter().all(|kind| kind[number] == 0) {
@@ -364,9 +378,14 @@ impl Told {
             Ok(plans) => plans,
             Err(_) => {
                 turns::why_refused(&call.table).into_iter().for_each(|why| self.refused.count(why));
+                formulas::why_refused(&call.table).into_iter().for_each(|why| self.refused_nodes.count(why));
                 return;
             }
         };
+        let of_version_2 = formula_cases::is_of_version_2(&call.table);
+        if of_version_2 {
+            formulas::count_table(&mut self.tables, &call.table, &plans);
+        }
         match (call.kind, number_of(*answer)) {
             (Kind::Step, 0) => {
                 let words = reference::read_words(&call.words);
@@ -374,8 +393,11 @@ impl Told {
                 turns::count_orders(&mut self.orders, &before, states);
                 turns::count_waits(&mut self.waits, call, &plans, states);
                 losses::count_moves(&mut self.moves, &before, states);
+                if of_version_2 {
+                    formulas::count_truths(&mut self.truths, &before, states);
+                }
             }
-            (Kind::Check, 0) => self.add_record(rule, &plans, &call.words),
+            (Kind::Check, 0) => self.add_record(rule, &plans, &call.words, of_version_2),
             (_, 0) => {}
             _ => turns::count_refused_call(&mut self.refused, call, &plans, *answer),
         }
@@ -383,15 +405,18 @@ impl Told {
     }
 
     /// All steps of a record that the rule accepts.
-    fn add_record(&mut self, rule: Rule, plans: &[reference::Plan], record: &[u8]) {
+    fn add_record(&mut self, rule: Rule, plans: &[reference::Plan], record: &[u8], of_version_2: bool) {
         cases::for_each_step(rule, plans, record, |before, shown| {
             turns::count_orders(&mut self.orders_in_records, before, shown);
             losses::count_moves(&mut self.moves_in_records, before, shown);
+            if of_version_2 {
+                formulas::count_truths(&mut self.truths_in_records, before, shown);
+            }
         });
     }
 
     /// Each part with its name and what is wanted of it.
-    fn parts(&self) -> [(&str, &Lines, Vec<String>); 10] {
+    fn parts(&self) -> [(&str, &Lines, Vec<String>); 14] {
         let refusals = [turns::wanted_of_tables(), turns::wanted_of_calls()].concat();
         let ([apart, alike], [apart_in_records, alike_in_records]) = (&self.moves, &self.moves_in_records);
         [
@@ -405,6 +430,10 @@ impl Told {
             ("moves that both rules give in accepted records", alike_in_records, losses::wanted_alike()),
             ("answers on which the rules part", &self.answers, losses::wanted_answers()),
             ("other rule numbers", &self.wrong_numbers, losses::wanted_of_numbers()),
+            ("formulas that decide in steps", &self.truths, formulas::wanted_truths()),
+            ("formulas that decide in accepted records", &self.truths_in_records, formulas::wanted_truths()),
+            ("good tables of version 2", &self.tables, formulas::wanted_tables()),
+            ("refusals by nodes", &self.refused_nodes, formulas::wanted_of_tables()),
         ]
     }
 
@@ -425,7 +454,7 @@ impl Told {
 
 /// Whether some step of an accepted record would have gone otherwise with picks 0.
 fn picks_decided_in_record(call: &Call) -> bool {
-    let n = (call.table.len() - 8) / 8;
+    let n = reference::number_of_16_bits(&call.table, 5);
     let mut states = vec![reference::INACTIVE; n];
     call.words[8..].chunks_exact(5 * n).any(|part| {
         let (words, shown) = part.split_at(4 * n);

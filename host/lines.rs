@@ -5,11 +5,13 @@
 //! starts PROGRAM anew for each input: a table and a record, as `cases` makes and spoils them, at times cut short, and at times longer
 //! than the program takes. A difference prints the seed and the input as hex, and the status is then 1; it is 1 too where the inputs,
 //! `REACH_FROM` of them or more, have no accepted record in which the second child's turn comes, for each of the bodies 5 to 8, or none
-//! that rule 1 would judge otherwise, for each of the two verdicts.
+//! that rule 1 would judge otherwise, for each of the two verdicts, or do not end in each of the ways in which a table of version 2 can.
 
 #[allow(dead_code)]
 mod cases;
 mod dice;
+#[allow(dead_code)]
+mod formula_cases;
 #[allow(dead_code)]
 mod losses;
 mod program;
@@ -40,7 +42,7 @@ fn main() -> ExitCode {
     let mut maker = Maker::new(seed);
     let mut dice = Dice::new(seed);
     let mut accepted = 0;
-    let (mut turns, mut verdicts) = (Lines::default(), Lines::default());
+    let (mut turns, mut verdicts, mut ends) = (Lines::default(), Lines::default(), Lines::default());
     for _ in 0..inputs {
         let input = next_input(&mut maker, &mut dice);
         let (expected, got) = (line(&input), printed(&program, &input));
@@ -55,6 +57,7 @@ fn main() -> ExitCode {
             cases::for_each_step(Rule::New, &plans, record, |before, shown| turns::count_orders(&mut turns, before, shown));
         }
         if input.len() <= MOST_BYTES {
+            end_of_nodes(&input, &expected).into_iter().for_each(|end| ends.count(end.to_string()));
             losses::count_verdicts(&mut verdicts, &cases::check_of(RULE, table.to_vec(), record.to_vec()));
         }
     }
@@ -63,7 +66,10 @@ fn main() -> ExitCode {
     let wanted: Vec<String> = turns::wanted_orders().into_iter().filter(comes).collect();
     let wanted_verdicts = losses::wanted_verdicts(RULE);
     verdicts.print("  records that only one rule accepts", &wanted_verdicts);
-    match turns.are_all(&wanted).and_then(|()| verdicts.are_all(&wanted_verdicts)) {
+    let wanted_ends = ENDS.map(String::from);
+    ends.print("  inputs with a table of version 2", &wanted_ends);
+    let all = turns.are_all(&wanted).and_then(|()| verdicts.are_all(&wanted_verdicts)).and_then(|()| ends.are_all(&wanted_ends));
+    match all {
         Err(what) if inputs >= REACH_FROM => {
             println!("{what}");
             ExitCode::FAILURE
@@ -72,7 +78,8 @@ fn main() -> ExitCode {
     }
 }
 
-/// A table and a record, one in ten cut somewhere, one in fifty filled up beyond what the program takes.
+/// A table and a record, one in ten cut somewhere, one in ten about where the table's plans or its nodes end, and one in fifty filled up
+/// beyond what the program takes.
 fn next_input(maker: &mut Maker, dice: &mut Dice) -> Vec<u8> {
     let call = loop {
         let call = maker.next_call();
@@ -80,9 +87,16 @@ fn next_input(maker: &mut Maker, dice: &mut Dice) -> Vec<u8> {
             break call;
         }
     };
+    let end_of_table = call.table.len();
     let mut input = [call.table, call.words].concat();
-    if dice.below(10) == 0 {
-        input.truncate(dice.below(input.len() + 1));
+    match dice.below(10) {
+        0 => input.truncate(dice.below(input.len() + 1)),
+        1 => {
+            let end_of_plans = 8 + 8 * plan_count(&input);
+            let ends = [end_of_plans, end_of_plans + 1, end_of_plans + 2, end_of_table.saturating_sub(1), end_of_table];
+            input.truncate(dice.one_of(&ends));
+        }
+        _ => {}
     }
     if dice.below(50) == 0 {
         input.resize(dice.between(MOST_BYTES, MOST_BYTES + 2), 0);
@@ -104,18 +118,54 @@ fn line(input: &[u8]) -> String {
     }
 }
 
-/// "the table is its first 8 + 8n bytes, or all of it if there are fewer or if the first 8 bytes are missing or refused"
+/// "the table is its first 8 + 8n bytes, or all of it if there are fewer or if the first 8 bytes are missing or refused"; 02 (v):
+/// "`aprcheck` finds the table's end by the node count"
 fn table_length(input: &[u8]) -> usize {
-    let header_passes = match reference::read_table(&input[..input.len().min(8)]) {
+    let whole = if header_passes(input) { end_of_table(input) } else { None };
+    whole.filter(|&end| end <= input.len()).unwrap_or(input.len())
+}
+
+fn header_passes(input: &[u8]) -> bool {
+    match reference::read_table(&input[..input.len().min(8)]) {
         Ok(_) => true,
         // a header alone lacks its plans, and nothing else is wrong with it
         Err(answer) => answer & 0xFFFF == 5,
-    };
-    let whole = 8 + 8 * plan_count(input);
-    if header_passes && whole <= input.len() {
-        whole
-    } else {
-        input.len()
+    }
+}
+
+/// Where a table with this header ends; of version 2, if its node count is there.
+fn end_of_table(input: &[u8]) -> Option<usize> {
+    let end_of_plans = 8 + 8 * plan_count(input);
+    if !formula_cases::is_of_version_2(input) {
+        return Some(end_of_plans);
+    }
+    let end_of_count = end_of_plans + reference::COUNT_BYTES;
+    let nodes = (end_of_count <= input.len()).then(|| reference::number_of_16_bits(input, end_of_plans))?;
+    Some(end_of_count + reference::NODE_BYTES * nodes)
+}
+
+const ACCEPTED: &str = "a record is accepted under formulas";
+const REFUSED: &str = "a node is refused";
+const IN_PLANS: &str = "the input ends in the plans or with them";
+const IN_COUNT: &str = "the input ends in the node count";
+const IN_NODES: &str = "the input ends in the nodes";
+const WITH_NODES: &str = "the input ends with the nodes";
+const ENDS: [&str; 6] = [ACCEPTED, REFUSED, IN_PLANS, IN_COUNT, IN_NODES, WITH_NODES];
+
+/// Where an input ends that has a table of version 2, if not in its record, and what is said of those that have all their nodes.
+fn end_of_nodes(input: &[u8], line: &str) -> Option<&'static str> {
+    if !formula_cases::is_of_version_2(input) || !header_passes(input) {
+        return None;
+    }
+    let end_of_plans = 8 + 8 * plan_count(input);
+    match end_of_table(input) {
+        None if input.len() <= end_of_plans => Some(IN_PLANS),
+        None => Some(IN_COUNT),
+        Some(end) if input.len() < end => Some(IN_NODES),
+        Some(_) if line.starts_with("refused 22") => Some(REFUSED),
+        Some(end) if input.len() == end => Some(WITH_NODES),
+        Some(end) if line.starts_with("accepted") && end > end_of_plans + reference::COUNT_BYTES => Some(ACCEPTED),
+        _ => None,
     }
 }
 
@@ -123,6 +173,6 @@ fn plan_count(input: &[u8]) -> usize {
     if input.len() < 7 {
         0
     } else {
-        usize::from(input[5]) + 256 * usize::from(input[6])
+        reference::number_of_16_bits(input, 5)
     }
 }

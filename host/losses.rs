@@ -9,15 +9,18 @@ use crate::tally::Lines;
 // Moves
 // ------------------------------------------------------------------------------------------------
 
-/// What wait-for says of a plan that has an Aborted child, which is a named one unless wait-for fails for Rejected ones.
+/// What wait-for says of a plan that has an Aborted child: of its children that are neither Rejected nor Aborted, and of those that are
+/// not Rejected. Where it holds of both, a named child is Aborted.
 #[derive(Clone, Copy, PartialEq)]
 enum WaitFor {
-    /// Holds even of the children that are neither Rejected nor Aborted.
+    /// Of both.
     Holds,
-    /// Fails of these, and holds of those that are not Rejected.
+    /// Fails of the first, and holds of the second.
     FailsForAborted,
-    /// Fails of those too.
-    FailsForRejected,
+    /// Holds of the first, and fails of the second: by a "not" or a xor.
+    HoldsForAborted,
+    /// Of both.
+    Fails,
 }
 
 /// What becomes of a plan.
@@ -29,6 +32,7 @@ const BY_ITSELF: &str = "is Suspended by its own suspend";
 const UNDER_PARENT: &str = "stays under a Suspended parent";
 const NOT_REACTIVATED: &str = "stays, for reactivate does not hold";
 const REACTIVATED: &str = "is reactivated";
+const COMPLETED: &str = "is Completed";
 const OTHERWISE: &str = "does what no rule says";
 
 fn number_of(rule: Rule) -> u32 {
@@ -43,24 +47,33 @@ fn from(old: u8) -> &'static str {
     }
 }
 
+fn truth(wait_for: WaitFor) -> &'static str {
+    match wait_for {
+        WaitFor::Holds => "holds",
+        WaitFor::FailsForAborted => "fails for Aborted children only",
+        WaitFor::HoldsForAborted => "holds for Aborted children only",
+        WaitFor::Fails => "fails for Rejected children or for those that are left",
+    }
+}
+
 /// A move that only one of the rules gives: of a plan with retry-aborted.
 fn apart(rule: Rule, body: u8, old: u8, what: &str) -> String {
-    format!("rule {}, body {body}, {}, wait-for fails for Aborted children only: {what}", number_of(rule), from(old))
+    format!("rule {}, body {body}, {}, wait-for {}: {what}", number_of(rule), from(old), truth(WaitFor::FailsForAborted))
+}
+
+/// Another, which only a formula with a "not" or a xor gives: told without its body.
+fn turned(rule: Rule, wait_for: WaitFor, old: u8, what: &str) -> String {
+    format!("rule {}, {}, wait-for {}: {what}", number_of(rule), from(old), truth(wait_for))
 }
 
 /// A move that both rules give.
 fn alike(rule: Rule, retries: bool, wait_for: WaitFor, old: u8, what: &str) -> String {
     let retries = if retries { "with" } else { "without" };
-    let wait_for = match wait_for {
-        WaitFor::Holds => "holds",
-        WaitFor::FailsForAborted => "fails for Aborted children only",
-        WaitFor::FailsForRejected => "fails for Rejected children",
-    };
-    format!("rule {}, {retries} retry-aborted, {}, wait-for {wait_for}: {what}", number_of(rule), from(old))
+    format!("rule {}, {retries} retry-aborted, {}, wait-for {}: {what}", number_of(rule), from(old), truth(wait_for))
 }
 
-/// All moves that only one of the rules gives. Under rule 2 such a plan is never Completed: its Completed children are among those that
-/// are neither Rejected nor Aborted, of which wait-for fails.
+/// All moves that only one of the rules gives. Under rule 2 such a plan can be Completed though wait-for fails of the children that are
+/// neither Rejected nor Aborted, and the Completed ones are among these: by a "not" or a xor only.
 pub fn wanted_apart() -> Vec<String> {
     let mut lines = Vec::new();
     for body in [reference::SEQUENTIAL, reference::PARALLEL, reference::ANY_ORDER, reference::UNORDERED] {
@@ -74,6 +87,11 @@ pub fn wanted_apart() -> Vec<String> {
             lines.push(apart(Rule::New, body, reference::SUSPENDED, what));
         }
     }
+    for old in [reference::ACTIVATED, reference::SUSPENDED] {
+        lines.push(turned(Rule::Old, WaitFor::HoldsForAborted, old, NOT_ABORTED));
+        lines.push(turned(Rule::New, WaitFor::HoldsForAborted, old, ABORTED));
+    }
+    lines.push(turned(Rule::New, WaitFor::FailsForAborted, reference::ACTIVATED, COMPLETED));
     lines
 }
 
@@ -83,9 +101,10 @@ pub fn wanted_alike() -> Vec<String> {
     for (_, rule) in RULES {
         for old in [reference::ACTIVATED, reference::SUSPENDED] {
             lines.push(alike(rule, false, WaitFor::FailsForAborted, old, ABORTED));
+            lines.push(alike(rule, false, WaitFor::HoldsForAborted, old, NOT_ABORTED));
             for retries in [false, true] {
                 lines.push(alike(rule, retries, WaitFor::Holds, old, NOT_ABORTED));
-                lines.push(alike(rule, retries, WaitFor::FailsForRejected, old, ABORTED));
+                lines.push(alike(rule, retries, WaitFor::Fails, old, ABORTED));
             }
         }
     }
@@ -101,38 +120,39 @@ pub fn count_moves(lines: &mut [Lines; 2], before: &Before, new: &[u8]) {
         if !reference::in_execution(old) || !reference::in_execution(parent_new) {
             continue;
         }
-        let Some(wait_for) = wait_for(before, plan) else { continue };
+        let Some(wait_for) = wait_for(before, p) else { continue };
         if reference::condition_holds(plan, before.words[p], reference::ABORT) {
             continue;
         }
         let retries = plan.flags >> reference::RETRY_ABORTED & 1 == 1;
         let [lines_apart, lines_alike] = lines;
-        if retries && wait_for == WaitFor::FailsForAborted {
-            lines_apart.count(apart(before.rule, plan.body, old, what_became(before, p, parent_new, new)));
-        } else {
-            let what = if new[p] == reference::ABORTED { ABORTED } else { NOT_ABORTED };
-            lines_alike.count(alike(before.rule, retries, wait_for, old, what));
+        let is_aborted = if new[p] == reference::ABORTED { ABORTED } else { NOT_ABORTED };
+        match wait_for {
+            WaitFor::FailsForAborted if retries => match what_became(before, p, parent_new, new) {
+                COMPLETED => lines_apart.count(turned(before.rule, wait_for, old, COMPLETED)),
+                what => lines_apart.count(apart(before.rule, plan.body, old, what)),
+            },
+            WaitFor::HoldsForAborted if retries => lines_apart.count(turned(before.rule, wait_for, old, is_aborted)),
+            _ => lines_alike.count(alike(before.rule, retries, wait_for, old, is_aborted)),
         }
     }
 }
 
 /// None without such a child.
-fn wait_for(before: &Before, plan: &Plan) -> Option<WaitFor> {
+fn wait_for(before: &Before, p: usize) -> Option<WaitFor> {
     let is_named = |child: usize| before.plans[child].flags >> reference::NAMED & 1 == 1;
-    let (mut aborted, mut named_aborted, mut not_rejected) = (0, 0, 0);
-    for &child in &plan.children {
-        let (state, named) = (before.states[child], usize::from(is_named(child)));
-        aborted += usize::from(state == reference::ABORTED);
-        named_aborted += usize::from(state == reference::ABORTED) * named;
-        not_rejected += usize::from(state != reference::REJECTED) * named;
+    let children = &before.plans[p].children;
+    let aborted: Vec<usize> = children.iter().copied().filter(|&child| before.states[child] == reference::ABORTED).collect();
+    if aborted.is_empty() {
+        return None;
     }
-    let needed = usize::from(plan.wait_number);
-    match (aborted, named_aborted) {
-        (0, _) => None,
-        _ if not_rejected < needed => Some(WaitFor::FailsForRejected),
-        (_, 0) => None,
-        _ if not_rejected - named_aborted < needed => Some(WaitFor::FailsForAborted),
-        _ => Some(WaitFor::Holds),
+    let of_neither = reference::wait_for_holds(before, p, |state| !matches!(state, reference::REJECTED | reference::ABORTED));
+    let of_not_rejected = reference::wait_for_holds(before, p, |state| state != reference::REJECTED);
+    match (of_neither, of_not_rejected) {
+        (true, true) => aborted.into_iter().any(is_named).then_some(WaitFor::Holds),
+        (true, false) => Some(WaitFor::HoldsForAborted),
+        (false, true) => Some(WaitFor::FailsForAborted),
+        (false, false) => Some(WaitFor::Fails),
     }
 }
 
@@ -141,6 +161,7 @@ fn what_became(before: &Before, p: usize, parent_new: u8, new: &[u8]) -> &'stati
     let mut all_are_retried = || children.all(|&c| before.states[c] != reference::ABORTED || new[c] == reference::CONSIDERED);
     match (before.states[p], new[p]) {
         (_, reference::ABORTED) => ABORTED,
+        (reference::ACTIVATED, reference::COMPLETED) => COMPLETED,
         (reference::ACTIVATED, reference::ACTIVATED) if all_are_retried() => RETRIES,
         (reference::ACTIVATED, reference::SUSPENDED) if parent_new == reference::SUSPENDED => WITH_PARENT,
         (reference::ACTIVATED, reference::SUSPENDED) => BY_ITSELF,

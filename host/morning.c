@@ -44,7 +44,8 @@ static void print_states(unsigned step, const uint8_t *states, size_t plans) {
 /* Ends the morning where a call is refused, with what the answer says. */
 static void need(uint64_t answer) {
     if (asbru_number(answer) == ASBRU_DONE) return;
-    printf("refused %u, step %u, plan %u: %s\n", asbru_number(answer), asbru_step_of(answer), asbru_plan(answer),
+    const char *place = asbru_number(answer) == ASBRU_REFUSED_FORMULA ? "node" : "plan";
+    printf("refused %u, step %u, %s %u: %s\n", asbru_number(answer), asbru_step_of(answer), place, asbru_plan(answer),
            asbru_number_text(asbru_number(answer)));
     exit(1);
 }
@@ -53,8 +54,8 @@ int main(int argc, char **argv) {
     if (argc != 3) fail("morning TABLE RECORD < WORDS", "usage");
     size_t table_length;
     uint8_t *table = load(argv[1], &table_length);
-    if (table_length < ASBRU_HEADER || table_length > ASBRU_HEADER + ASBRU_ENTRY * ASBRU_MOST_PLANS) fail("is no table", argv[1]);
-    size_t plans = (table_length - ASBRU_HEADER) / ASBRU_ENTRY;
+    size_t plans = table_length < ASBRU_HEADER ? 0 : table[5] + 256u * table[6]; /* not by the length: in version 2 nodes follow */
+    if (plans < 1 || plans > ASBRU_MOST_PLANS) fail("is no table", argv[1]);
 
     FILE *file = fopen(argv[2], "wb");
     if (!file) fail("cannot be written", argv[2]);

@@ -1,6 +1,7 @@
 /*
  * The rules in C, tuned by hand: what host/bench.c measures the proved library against. One pass over the plans gathers, for each
- * parent, eight counters in one 64-bit word, its first child that is not done, and its choice; a second pass moves the plans. Nothing
+ * parent, eight counters in one 64-bit word, its first child that is not done, and its choice; a second pass moves the plans. Where a
+ * formula asks for more than a number of named children, a pass of its own judges it and writes what it finds into the counters. Nothing
  * here is proved; host/differ.rs can be run on it (`child plain`) as on the library.
  */
 #include "plain.h"
@@ -65,6 +66,26 @@ static const uint16_t lets[9][2] = {[SEQUENTIAL] = {DONE, RETRYING},
 /* the new state under an ended parent */
 static const uint8_t cut_off[9] = {INACTIVE, REJECTED, REJECTED, REJECTED, ABORTED, ABORTED, COMPLETED, ABORTED, REJECTED};
 
+enum { CHILD, NOT, AND, OR, XOR, AT_LEAST };
+
+typedef struct {
+    uint8_t kind, a, b, zero;
+} Node;
+
+/*
+ * The plans of a table of version 2 whose formulas are more than a number of named children, which `wait` holds as in version 1. Such a
+ * plan counts as one that waits for one named child, and that child as Completed where the formula holds of the Completed children and as
+ * lost where it fails of those that are not lost.
+ */
+typedef struct {
+    unsigned count;
+    uint16_t plan[MOST];
+    uint8_t first[MOST];
+    uint64_t named[MOST]; /* by plan: sets of ranks */
+    uint16_t lost[MOST];  /* by plan: a set of states */
+    Node nodes[MOST];
+} Formulas;
+
 typedef struct {
     uint64_t counts[MOST];
     uint16_t first[MOST], choice[MOST];
@@ -89,15 +110,84 @@ static int above(const Plan *plans, unsigned a, unsigned p) {
     return p == a;
 }
 
-/* Checks 17 and 1 to 9, and what a table gives under a rule. */
-static uint64_t read_table(uint32_t rule, const uint8_t *t, size_t length, Plan *plans) {
+/* Checks 22 and 9 of a table of version 2 whose plans have passed check 8. */
+static uint64_t check_nodes(const Node *nodes, unsigned count, const Plan *plans, unsigned n) {
+    uint16_t owner[MOST]; /* the plan in whose formula a node stands */
+    uint8_t uses[MOST];   /* 2 stands for more too */
+    memset(uses, 0, count);
+    for (unsigned p = 0; p < n; p++) {
+        if (!plans[p].children) continue;
+        unsigned first = plans[p].wait;
+        if (first >= count) return 22;
+        uses[first] = uses[first] ? 2 : 1;
+        owner[first] = (uint16_t)p;
+    }
+    for (unsigned i = 0; i < count; i++) {
+        unsigned kind = nodes[i].kind, a = nodes[i].a, b = nodes[i].b;
+        if (kind < NOT || kind > XOR) continue;
+        if (a < count) uses[a] = uses[a] ? 2 : 1;
+        if (kind != NOT && b < count) uses[b] = uses[b] ? 2 : 1;
+    }
+    for (unsigned i = 0; i < count; i++) {
+        unsigned kind = nodes[i].kind, a = nodes[i].a, b = nodes[i].b;
+        int of_two = kind >= AND && kind <= XOR, operand = kind == NOT || of_two;
+        if (kind > AT_LEAST || nodes[i].zero || (!of_two && b) || uses[i] != 1 || (operand && (a <= i || a >= count))
+            || (of_two && (b <= i || b >= count)))
+            return answer(22, 0, i);
+        /* a node comes after the one that uses it */
+        if (operand) owner[a] = owner[i];
+        if (of_two) owner[b] = owner[i];
+    }
+    for (unsigned i = 0; i < count; i++)
+        if (nodes[i].kind == CHILD && nodes[i].a >= plans[owner[i]].children) return answer(22, 0, i);
+    unsigned asks = n;
+    for (unsigned i = 0; i < count; i++)
+        if (nodes[i].kind == AT_LEAST && nodes[i].a > plans[owner[i]].named && owner[i] < asks) asks = owner[i];
+    return asks < n ? answer(9, 0, asks) : 0;
+}
+
+/* The formulas of a table of version 2, whose node count is at t, and checks 22 and 9. */
+static uint64_t read_formulas(uint32_t rule, const uint8_t *t, unsigned n, Plan *plans, Formulas *f) {
+    unsigned count = u16(t);
+    if (count > MOST) return 22;
+    memcpy(f->nodes, t + 2, 4 * count);
+    const Node *nodes = f->nodes;
+    uint64_t bad = check_nodes(nodes, count, plans, n);
+    if (bad) return bad;
+    for (unsigned p = 0; p < n; p++) {
+        Plan *e = plans + p;
+        f->named[p] = 0;
+        f->lost[p] = 0;
+        if (p && f->lost[e->parent]) {
+            if (e->flags & NAMED) f->named[e->parent] |= 1ull << e->rank;
+            e->row = 0;
+        }
+        if (!e->children) continue;
+        unsigned first = e->wait;
+        if (nodes[first].kind == AT_LEAST) {
+            e->wait = nodes[first].a;
+            continue;
+        }
+        f->plan[f->count] = (uint16_t)p;
+        f->first[f->count++] = (uint8_t)first;
+        f->lost[p] = rule == 2 && e->flags & RETRY ? IN(REJECTED) : IN(REJECTED) | IN(ABORTED);
+        e->wait = e->named = 1;
+    }
+    return 0;
+}
+
+/* Checks 17, 1 to 8, 22 and 9, and what a table gives under a rule. */
+static uint64_t read_table(uint32_t rule, const uint8_t *t, size_t length, Plan *plans, Formulas *f) {
     if (rule != 1 && rule != 2) return 17;
     if (length < 8) return 1;
     if (memcmp(t, "APT", 3)) return 2;
-    if (u16(t + 3) != 1) return 3;
+    unsigned version = u16(t + 3);
+    if (version != 1 && version != 2) return 3;
     unsigned n = u16(t + 5);
     if (n < 1 || n > MOST || t[7]) return 4;
-    if (length != 8 + 8 * (size_t)n) return 5;
+    size_t end = 8 + 8 * (size_t)n;
+    if (version == 1 ? length != end : length < end + 2 || length != end + 2 + 4 * (size_t)u16(t + end)) return 5;
+    f->count = 0;
     for (unsigned p = 0; p < n; p++) {
         const uint8_t *e = t + 8 + 8 * p;
         Plan *plan = plans + p;
@@ -127,9 +217,47 @@ static uint64_t read_table(uint32_t rule, const uint8_t *t, size_t length, Plan 
         e->done = done[e->body][e->flags & RETRY];
         e->lets = lets[e->body][e->flags & RETRY];
     }
+    if (version == 2) return read_formulas(rule, t + end, n, plans, f);
     for (unsigned p = 0; p < n; p++)
         if (plans[p].wait > plans[p].named) return answer(9, 0, p);
     return 0;
+}
+
+/* Whether the formula from node i on holds of a set of children, of which some are named. */
+static int truth(const Node *nodes, unsigned i, uint64_t set, uint64_t named) {
+    const Node *e = nodes + i;
+    switch (e->kind) {
+    case CHILD:
+        return set >> e->a & 1;
+    case NOT:
+        return !truth(nodes, e->a, set, named);
+    case AND:
+        return truth(nodes, e->a, set, named) && truth(nodes, e->b, set, named);
+    case OR:
+        return truth(nodes, e->a, set, named) || truth(nodes, e->b, set, named);
+    case XOR:
+        return truth(nodes, e->a, set, named) != truth(nodes, e->b, set, named);
+    default:
+        return __builtin_popcountll(set & named) >= e->a;
+    }
+}
+
+/* What the formulas say of the plans in execution, into their counters. */
+static void judge(const Plan *plans, unsigned n, const uint8_t *old, const Formulas *f, Survey *s) {
+    uint64_t lost[MOST], completed[MOST];
+    memset(lost, 0, n * sizeof lost[0]);
+    memset(completed, 0, n * sizeof completed[0]);
+    for (unsigned p = 1; p < n; p++) {
+        unsigned q = plans[p].parent, state = old[p];
+        lost[q] |= (uint64_t)(f->lost[q] >> state & 1) << plans[p].rank;
+        completed[q] |= (uint64_t)(state == COMPLETED) << plans[p].rank;
+    }
+    for (unsigned k = 0; k < f->count; k++) {
+        unsigned p = f->plan[k];
+        if (old[p] != ACTIVATED && old[p] != SUSPENDED) continue;
+        if (!truth(f->nodes, f->first[k], ~lost[p], f->named[p])) s->counts[p] += ONE(LOST_NAMED);
+        if (truth(f->nodes, f->first[k], completed[p], f->named[p])) s->counts[p] += ONE(DONE_NAMED);
+    }
 }
 
 static inline int contradicts(uint32_t x) {
@@ -267,10 +395,10 @@ static uint64_t check_states(const Plan *plans, unsigned n, const uint8_t *state
     return 0;
 }
 
-/* Checks 17 and 1 to 12. */
+/* Checks 17, 1 to 8, 22 and 9 to 12. */
 static uint64_t check_call(uint32_t rule, const uint8_t *t, size_t t_length, const uint8_t *states, size_t s_length,
-                           const uint8_t *words, size_t w_length, Plan *plans) {
-    uint64_t bad = read_table(rule, t, t_length, plans);
+                           const uint8_t *words, size_t w_length, Plan *plans, Formulas *f) {
+    uint64_t bad = read_table(rule, t, t_length, plans, f);
     if (bad) return bad;
     unsigned n = u16(t + 5);
     if (s_length != n || w_length != 4 * n) return 10;
@@ -284,9 +412,10 @@ static uint64_t check_call(uint32_t rule, const uint8_t *t, size_t t_length, con
     return 0;
 }
 
-static void look_ahead(const Plan *plans, unsigned n, const uint8_t *states, const uint8_t *words, uint8_t *now) {
+static void look_ahead(const Plan *plans, unsigned n, const Formulas *f, const uint8_t *states, const uint8_t *words, uint8_t *now) {
     Survey s;
     survey(plans, n, states, NULL, &s);
+    if (f->count) judge(plans, n, states, f, &s);
     choose(plans, n, states, words, &s);
     for (unsigned p = 0; p < n; p++) now[p] = (uint8_t)next(plans, &s, states, now, words, p);
 }
@@ -294,10 +423,11 @@ static void look_ahead(const Plan *plans, unsigned n, const uint8_t *states, con
 uint64_t plain_step(uint32_t rule, const uint8_t *table, size_t table_length, uint8_t *states, size_t states_length,
                     const uint8_t *words, size_t words_length) {
     Plan plans[MOST];
-    uint64_t bad = check_call(rule, table, table_length, states, states_length, words, words_length, plans);
+    Formulas f;
+    uint64_t bad = check_call(rule, table, table_length, states, states_length, words, words_length, plans, &f);
     if (bad) return bad;
     uint8_t now[MOST];
-    look_ahead(plans, (unsigned)states_length, states, words, now);
+    look_ahead(plans, (unsigned)states_length, &f, states, words, now);
     memcpy(states, now, states_length);
     return 0;
 }
@@ -305,11 +435,12 @@ uint64_t plain_step(uint32_t rule, const uint8_t *table, size_t table_length, ui
 uint64_t plain_rest(uint32_t rule, const uint8_t *table, size_t table_length, uint8_t *states, size_t states_length,
                     const uint8_t *words, size_t words_length, uint16_t budget) {
     Plan plans[MOST];
-    uint64_t bad = check_call(rule, table, table_length, states, states_length, words, words_length, plans);
+    Formulas f;
+    uint64_t bad = check_call(rule, table, table_length, states, states_length, words, words_length, plans, &f);
     if (bad) return bad;
     for (unsigned k = 0;; k++) {
         uint8_t now[MOST];
-        look_ahead(plans, (unsigned)states_length, states, words, now);
+        look_ahead(plans, (unsigned)states_length, &f, states, words, now);
         if (!memcmp(states, now, states_length)) return answer(0, k, 0);
         if (k == budget) return answer(0, budget, 1);
         memcpy(states, now, states_length);
@@ -318,7 +449,8 @@ uint64_t plain_rest(uint32_t rule, const uint8_t *table, size_t table_length, ui
 
 uint64_t plain_check(uint32_t rule, const uint8_t *table, size_t table_length, const uint8_t *record, size_t record_length) {
     Plan plans[MOST];
-    uint64_t bad = read_table(rule, table, table_length, plans);
+    Formulas f;
+    uint64_t bad = read_table(rule, table, table_length, plans, &f);
     if (bad) return bad;
     unsigned n = u16(table + 5);
     if (record_length < 8 || memcmp(record, "APR", 3) || u16(record + 3) != 1 || u16(record + 5) != n || record[7]) return 13;
@@ -334,6 +466,7 @@ uint64_t plain_check(uint32_t rule, const uint8_t *table, size_t table_length, c
         }
         Survey s;
         survey(plans, n, old, shown, &s);
+        if (f.count) judge(plans, n, old, &f, &s);
         for (unsigned p = 0; p < n; p++)
             if (next(plans, &s, old, shown, words, p) != shown[p]) return answer(15, i, p);
         old = shown;

@@ -1,11 +1,11 @@
 //! A slow and plain implementation of document 01, "Requirements and rules for the build", and of
-//! requests (i) and (ii) of document 02, "Bodies for the bad turn" and "A retried step should not sink
-//! its parent".
+//! requests (i), (ii) and (v) of document 02, "Bodies for the bad turn", "A retried step should not
+//! sink its parent" and "Wait for this or both of those".
 //!
 //! It is written to be read beside the documents: in the order of document 01, in their words, one
-//! small function for each rule. A sentence in quotation marks is document 01's own; behind "02 (i):"
-//! or "02 (ii):" it is that request's. Nothing here is clever; where a rule can be looked up again by
-//! walking over the whole table, it is.
+//! small function for each rule. A sentence in quotation marks is document 01's own; behind "02 (i):",
+//! "02 (ii):" or "02 (v):" it is that request's. Nothing here is clever; where a rule can be looked up
+//! again by walking over the whole table, it is.
 //!
 //! Tests, among them the brute-force search over all picks, are in self_test.rs.
 
@@ -81,7 +81,7 @@ pub const REACTIVATE: u32 = 3;
 pub const ABORT: u32 = 4;
 pub const COMPLETE: u32 = 5;
 
-/// One plan of a table that passed the checks 1 to 9.
+/// One plan of a table that passed its checks.
 pub struct Plan {
     /// None for plan 0.
     pub parent: Option<usize>,
@@ -92,8 +92,22 @@ pub struct Plan {
     pub present: u8,
     pub manual: u8,
     pub overridable: u8,
-    /// "wait number m"
-    pub wait_number: u8,
+    /// "wait number m"; 02 (v): "Byte 7 of a plan with children is its formula's first node, of a leaf 0"
+    pub byte_7: u8,
+    /// What byte 7 stands for.
+    pub wait_for: Formula,
+}
+
+/// A wait-for. Of version 1, "at least m named children"; 02 (v): "Kinds: 0 child of rank a, 1 not, 2 and,
+/// 3 or, 4 xor, 5 at least a named children."
+#[derive(Clone, PartialEq, Debug)]
+pub enum Formula {
+    Child(usize),
+    Not(Box<Formula>),
+    And(Box<Formula>, Box<Formula>),
+    Or(Box<Formula>, Box<Formula>),
+    Xor(Box<Formula>, Box<Formula>),
+    AtLeast(usize),
 }
 
 /// Whether a body is one of those that have exactly two children.
@@ -126,7 +140,7 @@ fn bit(bits: impl Into<u32>, number: u32) -> bool {
 }
 
 /// "All numbers little-endian."
-fn number_of_16_bits(bytes: &[u8], at: usize) -> usize {
+pub fn number_of_16_bits(bytes: &[u8], at: usize) -> usize {
     usize::from(u16::from_le_bytes([bytes[at], bytes[at + 1]]))
 }
 
@@ -145,6 +159,7 @@ fn children_in_table(table: &[u8], n: usize, p: usize) -> Vec<usize> {
     (1..n).filter(|&c| parents_number(table, c) == p).collect()
 }
 
+/// A plan with its wait-for as version 1 has it. That of a leaf, whose byte 7 is 0 in both versions, holds.
 fn read_plan(table: &[u8], n: usize, p: usize) -> Plan {
     Plan {
         parent: if p == 0 { None } else { Some(parents_number(table, p)) },
@@ -154,20 +169,91 @@ fn read_plan(table: &[u8], n: usize, p: usize) -> Plan {
         present: plan_byte(table, p, 4),
         manual: plan_byte(table, p, 5),
         overridable: plan_byte(table, p, 6),
-        wait_number: plan_byte(table, p, 7),
+        byte_7: plan_byte(table, p, 7),
+        wait_for: Formula::AtLeast(usize::from(plan_byte(table, p, 7))),
     }
 }
 
-/// "wait-for holds of a set of children when at least m named children are in it"; here the set is
-/// that of the children whose old state is in `set`.
-fn wait_for_holds(before: &Before, p: usize, set: impl Fn(u8) -> bool) -> bool {
-    let plan = &before.plans[p];
-    let named_in_set = plan
-        .children
-        .iter()
-        .filter(|&&child| before.plans[child].is_named() && set(before.states[child]))
-        .count();
-    named_in_set >= usize::from(plan.wait_number)
+// 02 (v): "Add table version 2: after the plans a 16-bit node count of at most 256 and 4 bytes a node:
+//  kind, a, b, zero."
+pub const COUNT_BYTES: usize = 2;
+pub const NODE_BYTES: usize = 4;
+pub const MOST_NODES: usize = 256;
+
+// 02 (v): "0 child of rank a, 1 not, 2 and, 3 or, 4 xor, 5 at least a named children"
+pub const CHILD: u8 = 0;
+pub const NOT: u8 = 1;
+pub const AND: u8 = 2;
+pub const OR: u8 = 3;
+pub const XOR: u8 = 4;
+pub const AT_LEAST: u8 = 5;
+
+/// One node as it stands in a table of version 2.
+pub struct Node {
+    pub kind: u8,
+    pub a: u8,
+    pub b: u8,
+    pub zero: u8,
+}
+
+/// Where "the plans" end and, in version 2, the node count stands.
+fn end_of_plans(n: usize) -> usize {
+    HEADER_BYTES + PLAN_BYTES * n
+}
+
+/// The nodes of a table of version 2 whose length is right.
+pub fn read_nodes(table: &[u8], n: usize) -> Vec<Node> {
+    let node = |four: &[u8]| Node { kind: four[0], a: four[1], b: four[2], zero: four[3] };
+    table[end_of_plans(n) + COUNT_BYTES..].chunks_exact(NODE_BYTES).map(node).collect()
+}
+
+/// 02 (v): "Operands are node numbers": a of a not, a and b of an and, an or and a xor.
+pub fn operands(node: &Node) -> Vec<usize> {
+    match node.kind {
+        NOT => vec![usize::from(node.a)],
+        AND | OR | XOR => vec![usize::from(node.a), usize::from(node.b)],
+        _ => vec![],
+    }
+}
+
+/// The formula whose first node is number i, of nodes that keep their rules: since operands have higher
+/// numbers, the way down ends.
+fn formula_from(nodes: &[Node], i: usize) -> Formula {
+    let number = usize::from(nodes[i].a);
+    let part = |operand: u8| Box::new(formula_from(nodes, usize::from(operand)));
+    let Node { kind, a, b, .. } = nodes[i];
+    match kind {
+        CHILD => Formula::Child(number),
+        NOT => Formula::Not(part(a)),
+        AND => Formula::And(part(a), part(b)),
+        OR => Formula::Or(part(a), part(b)),
+        XOR => Formula::Xor(part(a), part(b)),
+        _ => Formula::AtLeast(number),
+    }
+}
+
+/// Whether a formula of plan p is true of the set of those of its children that are in it. Of version 1:
+/// "wait-for holds of a set of children when at least m named children are in it". A child that a formula
+/// asks for by its rank may be named or not.
+pub fn is_true(formula: &Formula, plans: &[Plan], p: usize, is_in: &dyn Fn(usize) -> bool) -> bool {
+    let part = |formula: &Formula| is_true(formula, plans, p, is_in);
+    let children = &plans[p].children;
+    match formula {
+        Formula::Child(rank) => is_in(children[*rank]),
+        Formula::Not(a) => !part(a),
+        Formula::And(a, b) => part(a) && part(b),
+        Formula::Or(a, b) => part(a) || part(b),
+        Formula::Xor(a, b) => part(a) != part(b),
+        Formula::AtLeast(number) => {
+            children.iter().filter(|&&child| plans[child].is_named() && is_in(child)).count() >= *number
+        }
+    }
+}
+
+/// 02 (v): "Loss and completion put the formula where m stood, exactly as document 003 section 10 does,
+/// "not" included." Here the set is that of the children whose old state is in `set`.
+pub fn wait_for_holds(before: &Before, p: usize, set: impl Fn(u8) -> bool) -> bool {
+    is_true(&before.plans[p].wait_for, before.plans, p, &|child| set(before.states[child]))
 }
 
 // ------------------------------------------------------------------------------------------------
@@ -437,7 +523,7 @@ fn too_many_are_lost(before: &Before, p: usize) -> bool {
 
 /// 02 (ii): "Document 01 counts an Aborted child as lost even when it will be retried. From now on,
 /// under retry-aborted only Rejected children are lost." The flag is the parent's.
-fn is_lost(rule: Rule, parent: &Plan, child_state: u8) -> bool {
+pub fn is_lost(rule: Rule, parent: &Plan, child_state: u8) -> bool {
     match rule {
         Rule::New if parent.retries_aborted() => child_state == REJECTED,
         _ => matches!(child_state, REJECTED | ABORTED),
@@ -839,23 +925,24 @@ fn read_rule(number: u32) -> Result<Rule, Answer> {
     }
 }
 
-/// The checks 1 to 9, "in this order, one number over the whole table or call before the next".
+/// The checks 1 to 8, 22 and 9, "in this order, one number over the whole table or call before the next".
 pub fn read_table(table: &[u8]) -> Result<Vec<Plan>, Answer> {
     // "1: table under 8 bytes"
     refuse_if(table.len() < HEADER_BYTES, 1)?;
     // "2: wrong mark"
     refuse_if(table[0..3] != *b"APT", 2)?;
-    // "3: version not 1"
-    refuse_if(number_of_16_bits(table, 3) != 1, 3)?;
+    // "3: version not 1"; 02 (v): "3 allows versions 1 and 2"
+    let version = number_of_16_bits(table, 3);
+    refuse_if(version != 1 && version != 2, 3)?;
     // "4: n outside 1..256, or header byte 7 not 0"
     let n = number_of_16_bits(table, 5);
     refuse_if(!(1..=MOST_PLANS).contains(&n) || table[7] != 0, 4)?;
-    // "5: table length not 8 + 8n"
-    refuse_if(table.len() != HEADER_BYTES + PLAN_BYTES * n, 5)?;
+    // "5: table length not 8 + 8n"; 02 (v): "5 means the new length"
+    refuse_if(if version == 1 { table.len() != end_of_plans(n) } else { !is_as_long_as_its_nodes(table, n) }, 5)?;
     // "6: parent rule, or a 65th child"
     refuse_lowest_plan(n, 6, 0, |p| breaks_parent_rule(table, p) || is_a_65th_child(table, p))?;
     // From here on the children of every plan are known; bytes 2 to 7 may still be bad.
-    let plans: Vec<Plan> = (0..n).map(|p| read_plan(table, n, p)).collect();
+    let mut plans: Vec<Plan> = (0..n).map(|p| read_plan(table, n, p)).collect();
     // "7: body above 4, or an unused bit in bytes 3 to 6"; 02 (i): "7 begins at body 9"
     refuse_lowest_plan(n, 7, 0, |p| plans[p].body > IF_THEN_ELSE || has_unused_bit_in_entry(&plans[p]))?;
     // "8: body against children; manual or overridable on an absent condition; root named; leaf
@@ -867,9 +954,87 @@ pub fn read_table(table: &[u8]) -> Result<Vec<Plan>, Answer> {
             || is_a_named_root(&plans[p])
             || is_a_leaf_that_waits_or_retries(&plans[p])
     })?;
-    // "9: m above the number of named children"
-    refuse_lowest_plan(n, 9, 0, |p| usize::from(plans[p].wait_number) > named_children(&plans, p))?;
+    // 02 (v): "22 after 8 and before 9"; of version 1 there are no nodes
+    if version == 2 {
+        let nodes = read_nodes(table, n);
+        check_nodes(&plans, &nodes)?;
+        for plan in plans.iter_mut().filter(|plan| !plan.children.is_empty()) {
+            plan.wait_for = formula_from(&nodes, usize::from(plan.byte_7));
+        }
+    }
+    // "9: m above the number of named children"; 02 (v): "9 covers kind 5, naming the plan"
+    refuse_lowest_plan(n, 9, 0, |p| asks_for_more_than(&plans[p].wait_for, named_children(&plans, p)))?;
     Ok(plans)
+}
+
+/// 02 (v): "after the plans a 16-bit node count ... and 4 bytes a node"
+fn is_as_long_as_its_nodes(table: &[u8], n: usize) -> bool {
+    let start = end_of_plans(n) + COUNT_BYTES;
+    table.len() >= start && table.len() == start + NODE_BYTES * number_of_16_bits(table, end_of_plans(n))
+}
+
+/// 02 (v): "22 ..., a node count above 256 or a parent's byte 7 not below it (place 0), then the lowest node
+/// that breaks these rules, its number in the plan's place"; and of these rules: "a rank, read once all else
+/// holds".
+fn check_nodes(plans: &[Plan], nodes: &[Node]) -> Check {
+    let has_its_first = |plan: &Plan| plan.children.is_empty() || usize::from(plan.byte_7) < nodes.len();
+    refuse_if(nodes.len() > MOST_NODES || !plans.iter().all(has_its_first), 22)?;
+    let uses = uses(plans, nodes);
+    refuse_lowest_node(nodes, |i| breaks_a_rule_of_nodes(nodes, &uses, i))?;
+    let wrong_ranks: Vec<usize> = plans.iter().flat_map(|plan| nodes_with_a_wrong_rank(plan, nodes)).collect();
+    refuse_lowest_node(nodes, |i| wrong_ranks.contains(&i))
+}
+
+fn refuse_lowest_node(nodes: &[Node], is_concerned: impl Fn(usize) -> bool) -> Check {
+    refuse_lowest_plan(nodes.len(), 22, 0, is_concerned)
+}
+
+/// All rules of a node but that on ranks.
+fn breaks_a_rule_of_nodes(nodes: &[Node], uses: &[usize], i: usize) -> bool {
+    let node = &nodes[i];
+    // "kind, a, b, zero"
+    node.kind > AT_LEAST
+        || node.zero != 0
+        // "Unused a and b are 0": b is unused by a child, a not and a number of named children, and a by none
+        || (matches!(node.kind, CHILD | NOT | AT_LEAST) && node.b != 0)
+        // "Operands are node numbers, and an operand has a higher number than the node that uses it."
+        || operands(node).iter().any(|&operand| operand <= i || operand >= nodes.len())
+        // "every node is used exactly once"
+        || uses.iter().filter(|&&used| used == i).count() != 1
+}
+
+/// The nodes that are used, each as often as it is: as the first node of a plan's formula, or as an operand,
+/// by a node that breaks a rule too.
+fn uses(plans: &[Plan], nodes: &[Node]) -> Vec<usize> {
+    let by_plans = plans.iter().filter(|plan| !plan.children.is_empty()).map(|plan| usize::from(plan.byte_7));
+    by_plans.chain(nodes.iter().flat_map(operands)).collect()
+}
+
+/// 02 (v): "a rank ... is below the number of children", those of the plan in whose formula the node stands.
+fn nodes_with_a_wrong_rank(plan: &Plan, nodes: &[Node]) -> Vec<usize> {
+    if plan.children.is_empty() {
+        return vec![];
+    }
+    let is_wrong = |&i: &usize| nodes[i].kind == CHILD && usize::from(nodes[i].a) >= plan.children.len();
+    nodes_from(nodes, usize::from(plan.byte_7)).into_iter().filter(is_wrong).collect()
+}
+
+/// This node and all that are met on the way down from it, of nodes that keep their rules.
+pub fn nodes_from(nodes: &[Node], first: usize) -> Vec<usize> {
+    let below = operands(&nodes[first]).into_iter().flat_map(|operand| nodes_from(nodes, operand));
+    std::iter::once(first).chain(below).collect()
+}
+
+/// Whether some part of a formula asks for more than this number of named children.
+fn asks_for_more_than(formula: &Formula, named: usize) -> bool {
+    match formula {
+        Formula::Child(_) => false,
+        Formula::Not(a) => asks_for_more_than(a, named),
+        Formula::And(a, b) | Formula::Or(a, b) | Formula::Xor(a, b) => {
+            asks_for_more_than(a, named) || asks_for_more_than(b, named)
+        }
+        Formula::AtLeast(number) => *number > named,
+    }
 }
 
 /// "65535 for plan 0 only. Any other plan's parent is the plan just before it or an ancestor of
@@ -923,7 +1088,7 @@ fn is_a_named_root(plan: &Plan) -> bool {
 
 /// "leaf with m or flag bits 0, 1"
 fn is_a_leaf_that_waits_or_retries(plan: &Plan) -> bool {
-    plan.body == LEAF && (plan.wait_number != 0 || plan.retries_aborted() || plan.waits_for_optional())
+    plan.body == LEAF && (plan.byte_7 != 0 || plan.retries_aborted() || plan.waits_for_optional())
 }
 
 pub fn named_children(plans: &[Plan], p: usize) -> usize {
@@ -1058,7 +1223,7 @@ pub fn check(rule: u32, table: &[u8], record: &[u8]) -> Answer {
     try_check(rule, table, record).unwrap_or_else(|refusal| refusal)
 }
 
-/// "the checker goes 1-9, 13, 14, then step by step"
+/// "the checker goes 1-9, 13, 14, then step by step", with 22 where a table is read
 fn try_check(rule: u32, table: &[u8], record: &[u8]) -> Result<Answer, Answer> {
     let rule = read_rule(rule)?;
     let plans = read_table(table)?;

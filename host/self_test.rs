@@ -669,3 +669,376 @@ fn a_sub_tree_is_the_plan_and_its_descendants_and_no_other() {
         }
     }
 }
+
+// ------------------------------------------------------------------------------------------------
+// Request (v) of document 02: wait-for formulas
+// ------------------------------------------------------------------------------------------------
+
+/// A table of version 2: a root of body 4 that begins its formula at `first`, so many leaves, all with complete and abort present, of
+/// which those of these ranks are named; and these nodes.
+fn formula_table(first: u8, leaves: u8, named: &[u8], nodes: &[[u8; 4]]) -> Vec<u8> {
+    let mut table = b"APT\x02\x00".to_vec();
+    table.extend([leaves + 1, 0, 0, 255, 255, 4, 0, 48, 0, 0, first]);
+    for rank in 0..leaves {
+        table.extend([0, 0, 0, u8::from(named.contains(&rank)) << 2, 48, 0, 0, 0]);
+    }
+    with_nodes(table, nodes)
+}
+
+fn with_nodes(mut table: Vec<u8>, nodes: &[[u8; 4]]) -> Vec<u8> {
+    table.extend((nodes.len() as u16).to_le_bytes());
+    table.extend(nodes.concat());
+    table
+}
+
+/// What the root becomes, Activated over three leaves in these states, where complete holds of it.
+fn root_after(table: &[u8], leaves: [u8; 3]) -> u8 {
+    let mut states = [4, leaves[0], leaves[1], leaves[2]];
+    let words: Vec<u8> = [32u32, 0, 0, 0].iter().flat_map(|word| word.to_le_bytes()).collect();
+    assert_eq!(reference::step(2, table, &mut states, &words), 0);
+    states[0]
+}
+
+/// What the formula that begins at the first of these nodes says of each set of three children, of which 0 and 2 are named: a 1 or a 0
+/// for each set, first of none, then of child 0, of 1, of 1 and 0, of 2, of 2 and 0, of 2 and 1, of all.
+fn truths(nodes: &[[u8; 4]]) -> String {
+    let table = formula_table(0, 3, &[0, 2], nodes);
+    let truth = |set: u8| {
+        let states = |inside: u8, outside: u8| [0, 1, 2].map(|rank| if set >> rank & 1 == 1 { inside } else { outside });
+        // loss reads the children that are neither Rejected nor Aborted, as those that are Ready
+        let (rejected, aborted) = (root_after(&table, states(3, 8)), root_after(&table, states(3, 7)));
+        assert_eq!(rejected == 7, aborted == 7, "of {set:03b}");
+        // completion reads the Completed ones; that a plan with Activated children besides is not lost is asked of all children
+        let all_hold = root_after(&table, [3, 3, 3]) != 7;
+        let completed = root_after(&table, states(6, 4));
+        if all_hold {
+            assert_eq!(completed == 6, rejected != 7, "of {set:03b}");
+        } else {
+            assert_eq!(completed, 7, "of {set:03b}");
+        }
+        if rejected == 7 { '0' } else { '1' }
+    };
+    (0..8).map(truth).collect()
+}
+
+const CHILD_0: [u8; 4] = [0, 0, 0, 0];
+const CHILD_1: [u8; 4] = [0, 1, 0, 0];
+const CHILD_2: [u8; 4] = [0, 2, 0, 0];
+
+/// Written by hand: under each row the sets "none, 0, 1, 01, 2, 02, 12, 012".
+#[test]
+fn each_kind_of_each_set() {
+    let rows: [(&[[u8; 4]], &str); 18] = [
+        (&[CHILD_0], "01010101"),
+        (&[CHILD_1], "00110011"),
+        (&[CHILD_2], "00001111"),
+        (&[[1, 1, 0, 0], CHILD_0], "10101010"),
+        (&[[1, 1, 0, 0], CHILD_2], "11110000"),
+        (&[[2, 1, 2, 0], CHILD_0, CHILD_1], "00010001"),
+        (&[[3, 1, 2, 0], CHILD_0, CHILD_1], "01110111"),
+        (&[[4, 1, 2, 0], CHILD_0, CHILD_1], "01100110"),
+        (&[[4, 2, 1, 0], CHILD_2, CHILD_0], "01011010"),
+        // named are 0 and 2
+        (&[[5, 0, 0, 0]], "11111111"),
+        (&[[5, 1, 0, 0]], "01011111"),
+        (&[[5, 2, 0, 0]], "00000101"),
+        // the same child twice
+        (&[[2, 1, 2, 0], CHILD_1, CHILD_1], "00110011"),
+        (&[[4, 1, 2, 0], CHILD_1, CHILD_1], "00000000"),
+        // "(one and two) or three", and with its nodes in another order
+        (&[[3, 1, 2, 0], [2, 3, 4, 0], CHILD_2, CHILD_0, CHILD_1], "00011111"),
+        (&[[3, 4, 1, 0], [2, 3, 2, 0], CHILD_1, CHILD_0, CHILD_2], "00011111"),
+        // not (0 or 1), and two nots
+        (&[[1, 1, 0, 0], [3, 2, 3, 0], CHILD_0, CHILD_1], "10001000"),
+        (&[[1, 1, 0, 0], [1, 2, 0, 0], CHILD_1], "00110011"),
+    ];
+    for (nodes, expected) in rows {
+        assert_eq!(truths(nodes), expected, "{nodes:?}");
+    }
+}
+
+#[test]
+fn nested_formulas_of_each_set() {
+    let rows: [(&[[u8; 4]], &str); 6] = [
+        // 0 and not 1
+        (&[[2, 1, 2, 0], CHILD_0, [1, 3, 0, 0], CHILD_1], "01000100"),
+        // (0 xor 1) xor 2: an odd number of them
+        (&[[4, 1, 2, 0], [4, 3, 4, 0], CHILD_2, CHILD_0, CHILD_1], "01101001"),
+        // not (0 xor 1) or 2
+        (&[[3, 1, 2, 0], [1, 3, 0, 0], CHILD_2, [4, 4, 5, 0], CHILD_0, CHILD_1], "10011111"),
+        // (0 or 1) and not (0 and 1), which is 0 xor 1
+        (&[[2, 1, 2, 0], [3, 3, 4, 0], [1, 5, 0, 0], CHILD_0, CHILD_1, [2, 6, 7, 0], CHILD_0, CHILD_1], "01100110"),
+        // 1 and at least one of 0 and 2
+        (&[[2, 1, 2, 0], CHILD_1, [5, 1, 0, 0]], "00010011"),
+        // 1 xor not (at least two of 0 and 2)
+        (&[[4, 1, 2, 0], CHILD_1, [1, 3, 0, 0], [5, 2, 0, 0]], "11001001"),
+    ];
+    for (nodes, expected) in rows {
+        assert_eq!(truths(nodes), expected, "{nodes:?}");
+    }
+}
+
+/// Two plans with formulas of their own, whose nodes stand in turn: plan 0 waits for its second child, plan 4, and plan 1 for neither of
+/// its two, plans 2 and 3.
+#[test]
+fn formulas_of_two_plans() {
+    let mut table = b"APT\x02\x00\x05\x00\x00".to_vec();
+    for (parent, body, first) in [(65_535u16, 4, 1), (0, 4, 0), (1, 0, 0), (1, 0, 0), (0, 0, 0)] {
+        table.extend(parent.to_le_bytes());
+        table.extend([body, 0, 32, 0, 0, first]);
+    }
+    let table = with_nodes(table, &[[1, 2, 0, 0], [0, 1, 0, 0], [3, 4, 3, 0], [0, 1, 0, 0], [0, 0, 0, 0]]);
+    let after = |states: [u8; 5]| {
+        let mut states = states;
+        let words: Vec<u8> = [32u32, 32, 0, 0, 0].iter().flat_map(|word| word.to_le_bytes()).collect();
+        assert_eq!(reference::step(2, &table, &mut states, &words), 0);
+        states
+    };
+    // plan 1 is not lost and completes only without its children; plan 0 completes by plan 4 and is lost with it
+    assert_eq!(after([4, 4, 7, 8, 4]), [4, 6, 7, 8, 4]);
+    assert_eq!(after([4, 4, 4, 8, 4]), [4, 7, 7, 8, 4]);
+    assert_eq!(after([4, 4, 8, 6, 4]), [4, 7, 8, 6, 4]);
+    assert_eq!(after([4, 3, 0, 0, 6]), [6, 8, 0, 0, 6]);
+    assert_eq!(after([4, 3, 0, 0, 7]), [7, 8, 0, 0, 7]);
+}
+
+/// "'not' included": a plan that waits for a child not to be there is lost while it can still come.
+#[test]
+fn not_child_0_is_lost_while_child_0_is_neither_rejected_nor_aborted() {
+    let table = formula_table(0, 1, &[], &[[1, 1, 0, 0], CHILD_0]);
+    for rule in [1, 2] {
+        for plan in [4, 5] {
+            for child in 0..=8 {
+                // a child of a Suspended plan is not Activated
+                if (plan, child) == (5, 4) {
+                    continue;
+                }
+                let mut states = [plan, child];
+                assert_eq!(reference::step(rule, &table, &mut states, &[0; 8]), 0);
+                let lost = !matches!(child, 7 | 8);
+                assert_eq!(states[0] == 7, lost, "rule {rule}, {plan}, {child}");
+            }
+            // under retry-aborted an Aborted child is lost by rule 1 only
+            let retrying = changed(&table, &[(place(0, 3), 1)]);
+            let mut states = [plan, 7];
+            assert_eq!(reference::step(rule, &retrying, &mut states, &[0; 8]), 0);
+            assert_eq!(states[0] == 7, rule == 2, "rule {rule}, {plan}");
+        }
+    }
+    // and it completes where none has: here the one child was Rejected
+    let mut states = [4, 8];
+    assert_eq!(reference::step(2, &table, &mut states, &[32, 0, 0, 0, 0, 0, 0, 0]), 0);
+    assert_eq!(states, [6, 8]);
+}
+
+/// Two leaves' table of version 1 and the same with one node of kind 5: what T1 does it does in both.
+#[test]
+fn t1_in_version_2() {
+    let t1 = with_nodes(t1_with(&[(3, 2), (place(0, 7), 0)]), &[[5, 2, 0, 0]]);
+    let mut states = [0, 0, 0];
+    for expected in FIRST_EIGHT {
+        expect_step(&t1, states, [0, 0, 0], expected);
+        states = expected;
+    }
+    expect_step(&t1, [4, 6, 3], [0, 0, 0], [4, 6, 4]);
+    expect_step(&t1, [4, 6, 6], [0, 0, 0], [6, 6, 6]);
+    expect_step(&t1, [4, 7, 3], [0, 0, 0], [7, 7, 8]);
+    assert_eq!(check(&t1, &record_of(&FIRST_EIGHT)), answer(0, 0, 8));
+    // the record's header stays version 1
+    let mut of_version_2 = record_of(&FIRST_EIGHT);
+    of_version_2[3] = 2;
+    assert_eq!(check(&t1, &of_version_2), answer(13, 0, 0));
+    assert_eq!(reference::sub_tree(&t1, &[9, 8, 7], 1), [8]);
+}
+
+fn refusal(table: &[u8]) -> u64 {
+    reference::read_table(table).err().unwrap_or(0)
+}
+
+fn expect_22(nodes: &[[u8; 4]], place: usize) {
+    assert_eq!(refusal(&formula_table(0, 3, &[0, 2], nodes)), answer(22, place, 0), "{nodes:?}");
+}
+
+#[test]
+fn versions_and_lengths() {
+    let good = formula_table(0, 3, &[], &[CHILD_0]);
+    assert_eq!(refusal(&good), 0);
+    for version in 0..=65_535u16 {
+        let [low, high] = version.to_le_bytes();
+        let expected = match version {
+            // of version 1 the nodes are too many bytes
+            1 => answer(5, 0, 0),
+            2 => 0,
+            _ => answer(3, 0, 0),
+        };
+        assert_eq!(refusal(&changed(&good, &[(3, low), (4, high)])), expected, "version {version}");
+    }
+    let end = 8 + 8 * 4;
+    assert_eq!(refusal(&good[..end]), answer(5, 0, 0));
+    assert_eq!(refusal(&good[..end + 1]), answer(5, 0, 0));
+    // no nodes, and a parent that needs one
+    assert_eq!(refusal(&changed(&good[..end + 2], &[(end, 0)])), answer(22, 0, 0));
+    assert_eq!(refusal(&good[..end + 2]), answer(5, 0, 0));
+    assert_eq!(refusal(&good[..good.len() - 1]), answer(5, 0, 0));
+    assert_eq!(refusal(&[&good[..], &[0]].concat()), answer(5, 0, 0));
+    for count in [0, 2, 255] {
+        assert_eq!(refusal(&changed(&good, &[(end, count)])), answer(5, 0, 0));
+    }
+    assert_eq!(refusal(&changed(&good, &[(end + 1, 1)])), answer(5, 0, 0));
+    // a leaf alone needs none and may have none
+    let leaf = b"APT\x02\x00\x01\x00\x00\xFF\xFF\x00\x00\x00\x00\x00\x00";
+    assert_eq!(refusal(&with_nodes(leaf.to_vec(), &[])), 0);
+    assert_eq!(refusal(&with_nodes(leaf.to_vec(), &[CHILD_0])), answer(22, 0, 0));
+    assert_eq!(refusal(leaf), answer(5, 0, 0));
+    // of version 1 it is 8 + 8n bytes and nothing more
+    assert_eq!(refusal(&with_nodes(T1.to_vec(), &[])), answer(5, 0, 0));
+}
+
+/// A chain of nots down to a child: as many nodes as are said.
+fn nots(count: usize) -> Vec<[u8; 4]> {
+    (1..count).map(|i| [1, i as u8, 0, 0]).chain([CHILD_0]).collect()
+}
+
+#[test]
+fn counts_and_first_nodes() {
+    assert_eq!(refusal(&formula_table(0, 3, &[], &nots(256))), 0);
+    // a count above 256 is told before the node 1 that nothing uses
+    expect_22(&[CHILD_0; 256], 1);
+    expect_22(&[CHILD_0; 257], 0);
+    expect_22(&[CHILD_0; 512], 0);
+    let good = [[2, 1, 2, 0], CHILD_0, CHILD_1];
+    for first in 0..=255 {
+        let expected = if first == 0 { 0 } else { answer(22, 0, 0) };
+        assert_eq!(refusal(&formula_table(first, 3, &[], &good)), expected, "first node {first}");
+    }
+    // of a leaf byte 7 is 0, and is no use of node 0
+    let leaf_with_7 = changed(&formula_table(0, 3, &[], &good), &[(place(2, 7), 1)]);
+    assert_eq!(refusal(&leaf_with_7), answer(8, 2, 0));
+}
+
+#[test]
+fn each_reason_of_22_and_its_node() {
+    let with_last = |node: [u8; 4]| [[2, 1, 2, 0], CHILD_0, node];
+    for kind in 6..=255 {
+        expect_22(&with_last([kind, 0, 0, 0]), 2);
+    }
+    for bit in 0..8 {
+        let byte = 1 << bit;
+        // the fourth byte, and b of kinds 0, 1 and 5
+        expect_22(&with_last([0, 0, 0, byte]), 2);
+        expect_22(&with_last([5, 0, 0, byte]), 2);
+        expect_22(&with_last([0, 0, byte, 0]), 2);
+        expect_22(&with_last([5, 0, byte, 0]), 2);
+        expect_22(&[[1, 1, byte, 0], CHILD_0], 0);
+        expect_22(&[[3, 1, 2, byte], CHILD_0, CHILD_1], 0);
+    }
+    // operands: the node itself, a lower one, one past the count; of nodes that are used once, so that nothing else is wrong
+    for kind in 2..=4 {
+        expect_22(&[CHILD_0, [kind, 1, 2, 0], CHILD_0], 1);
+        expect_22(&[CHILD_0, [kind, 2, 1, 0], CHILD_0], 1);
+        expect_22(&[CHILD_0, [1, 2, 0, 0], [kind, 1, 3, 0], CHILD_0], 2);
+        expect_22(&[CHILD_0, [1, 2, 0, 0], [kind, 3, 1, 0], CHILD_0], 2);
+        for past in [3, 4, 255] {
+            expect_22(&[[kind, past, 1, 0], CHILD_0, CHILD_0], 0);
+            expect_22(&[[kind, 1, past, 0], CHILD_0, CHILD_0], 0);
+        }
+    }
+    expect_22(&[CHILD_0, [1, 1, 0, 0]], 1);
+    expect_22(&[CHILD_0, [1, 2, 0, 0], [1, 1, 0, 0]], 2);
+    expect_22(&[[1, 2, 0, 0], CHILD_0], 0);
+    // used by none, by two nodes, by one node twice, by the plan and a node
+    expect_22(&[CHILD_0, CHILD_1], 1);
+    expect_22(&[[2, 1, 2, 0], [1, 3, 0, 0], [1, 3, 0, 0], CHILD_0], 3);
+    expect_22(&[[2, 1, 1, 0], CHILD_0], 1);
+    expect_22(&[CHILD_0, [1, 0, 0, 0]], 0);
+    // a of kinds 0 and 5 is no operand
+    expect_22(&[[5, 1, 0, 0], CHILD_0], 1);
+    expect_22(&[[0, 1, 0, 0], CHILD_0], 1);
+    // the rank of a child that is not there
+    for rank in 3..=255 {
+        expect_22(&[[0, rank, 0, 0]], 0);
+        expect_22(&[[1, 1, 0, 0], [0, rank, 0, 0]], 1);
+    }
+}
+
+/// A chain of four plans, three of which have a child, and where their formulas begin.
+#[test]
+fn nodes_that_several_plans_use() {
+    let refusal_of = |firsts: [u8; 3], nodes: &[[u8; 4]]| {
+        let mut table = b"APT\x02\x00\x04\x00\x00".to_vec();
+        for (parent, body, first) in [(65_535u16, 4, firsts[0]), (0, 4, firsts[1]), (1, 4, firsts[2]), (2, 0, 0)] {
+            table.extend(parent.to_le_bytes());
+            table.extend([body, 0, 0, 0, 0, first]);
+        }
+        refusal(&with_nodes(table, nodes))
+    };
+    assert_eq!(refusal_of([2, 0, 1], &[CHILD_0; 3]), 0);
+    // two plans use node 1, or a plan and a node do, or two plans and a node
+    assert_eq!(refusal_of([0, 1, 1], &[CHILD_0; 2]), answer(22, 1, 0));
+    assert_eq!(refusal_of([0, 1, 2], &[[1, 1, 0, 0], CHILD_0, CHILD_0]), answer(22, 1, 0));
+    assert_eq!(refusal_of([0, 1, 1], &[[1, 1, 0, 0], CHILD_0]), answer(22, 1, 0));
+    // two plans use node 2, and none uses node 1
+    assert_eq!(refusal_of([0, 2, 2], &[CHILD_0; 3]), answer(22, 1, 0));
+    // a parent's byte 7 past the count goes before the node 1 that it leaves unused
+    assert_eq!(refusal_of([2, 0, 3], &[CHILD_0; 3]), answer(22, 0, 0));
+    // each plan has one child: rank 1 is too high for each, and the lowest node is told, not that of the lowest plan
+    assert_eq!(refusal_of([2, 0, 1], &[CHILD_0, CHILD_1, CHILD_1]), answer(22, 1, 0));
+}
+
+#[test]
+fn the_lowest_node_is_told_and_a_rank_last() {
+    // of two broken nodes the lower one
+    expect_22(&[[2, 1, 2, 0], [0, 0, 1, 0], [6, 0, 0, 0]], 1);
+    // a rank that is not there, before and behind a node that breaks another rule
+    expect_22(&[[2, 1, 2, 0], [0, 3, 0, 0], [5, 0, 1, 0]], 2);
+    expect_22(&[[2, 1, 2, 0], [5, 0, 1, 0], [0, 3, 0, 0]], 1);
+    expect_22(&[[0, 3, 0, 0], CHILD_0], 1);
+    // of two ranks the lower node's
+    expect_22(&[[2, 1, 2, 0], [0, 3, 0, 0], [0, 4, 0, 0]], 1);
+    // a use counts though the node that uses breaks a rule: node 1 is used once, by a node that is broken
+    expect_22(&[CHILD_0, [1, 2, 0, 0], [2, 1, 3, 0], CHILD_0], 2);
+    expect_22(&[[2, 1, 2, 9], CHILD_0, [6, 0, 0, 0]], 0);
+    // a node of no kind uses nothing
+    expect_22(&[[1, 1, 0, 0], [2, 2, 3, 0], [6, 3, 4, 0], CHILD_0, CHILD_1], 2);
+}
+
+#[test]
+fn nine_of_a_kind_5() {
+    let asked = |nodes: &[[u8; 4]]| refusal(&formula_table(0, 3, &[0, 2], nodes));
+    assert_eq!(asked(&[[5, 2, 0, 0]]), 0);
+    for number in 3..=255 {
+        assert_eq!(asked(&[[5, number, 0, 0]]), answer(9, 0, 0));
+        assert_eq!(asked(&[[1, 1, 0, 0], [3, 2, 3, 0], CHILD_0, [5, number, 0, 0]]), answer(9, 0, 0));
+    }
+    // plan 1 has one named child, plan 0 none
+    let mut table = b"APT\x02\x00\x03\x00\x00".to_vec();
+    for (parent, body, flags, first) in [(65_535u16, 4, 0, 1), (0, 4, 0, 0), (1, 0, 4, 0)] {
+        table.extend(parent.to_le_bytes());
+        table.extend([body, flags, 0, 0, 0, first]);
+    }
+    let asked = |of_plan_1: u8, of_plan_0: u8| refusal(&with_nodes(table.clone(), &[[5, of_plan_1, 0, 0], [5, of_plan_0, 0, 0]]));
+    assert_eq!(asked(1, 0), 0);
+    assert_eq!(asked(2, 0), answer(9, 1, 0));
+    assert_eq!(asked(1, 1), answer(9, 0, 0));
+    // the lower plan, though its node is the higher one
+    assert_eq!(asked(2, 1), answer(9, 0, 0));
+}
+
+#[test]
+fn eight_goes_before_22_and_22_before_9() {
+    let broken = [[2, 1, 2, 0], [5, 3, 0, 0], [6, 0, 0, 0]];
+    let table = formula_table(0, 3, &[0, 2], &broken);
+    assert_eq!(refusal(&table), answer(22, 2, 0));
+    // a leaf with wait-for-optional, an unused bit, a wrong parent: at plan 3, which is behind node 2
+    assert_eq!(refusal(&changed(&table, &[(place(3, 3), 2)])), answer(8, 3, 0));
+    assert_eq!(refusal(&changed(&table, &[(place(3, 3), 8)])), answer(7, 3, 0));
+    assert_eq!(refusal(&changed(&table, &[(place(3, 0), 9)])), answer(6, 3, 0));
+    let mut whole = broken;
+    whole[2] = CHILD_0;
+    assert_eq!(refusal(&formula_table(0, 3, &[0, 2], &whole)), answer(9, 0, 0));
+    // a rank goes before 9 too
+    whole[2] = [0, 3, 0, 0];
+    assert_eq!(refusal(&formula_table(0, 3, &[0, 2], &whole)), answer(22, 2, 0));
+    // and of version 1 a wait number is 9, whatever it would be as a node's number
+    assert_eq!(refusal(&t1_with(&[(place(0, 7), 3)])), answer(9, 0, 0));
+}

@@ -10,6 +10,10 @@
 mod cases;
 #[allow(dead_code)]
 mod dice;
+#[allow(dead_code)]
+mod formula_cases;
+#[allow(dead_code)]
+mod formulas;
 mod program;
 #[allow(dead_code)]
 mod reference;
@@ -30,7 +34,7 @@ const MOST_BYTES: usize = 262_144;
 const REACH_FROM: usize = 6_000;
 
 /// The kinds of answers: of a table by its number, then of a sub tree.
-const KINDS: [&str; 16] = [
+const KINDS: [&str; 17] = [
     "accepted",
     "refused 1",
     "refused 2",
@@ -41,6 +45,7 @@ const KINDS: [&str; 16] = [
     "refused 7",
     "refused 8",
     "refused 9",
+    "refused 22",
     "of a root",
     "of an inner plan",
     "of a leaf",
@@ -48,20 +53,22 @@ const KINDS: [&str; 16] = [
     "empty for a wrong length",
     "empty for a plan not below n",
 ];
-const OF_A_ROOT: usize = 10;
-const OF_AN_INNER_PLAN: usize = 11;
-const OF_A_LEAF: usize = 12;
-const EMPTY_BY_TABLE: usize = 13;
-const EMPTY_BY_LENGTH: usize = 14;
-const EMPTY_BY_PLAN: usize = 15;
+const OF_NODES: usize = 10;
+const OF_A_ROOT: usize = 11;
+const OF_AN_INNER_PLAN: usize = 12;
+const OF_A_LEAF: usize = 13;
+const EMPTY_BY_TABLE: usize = 14;
+const EMPTY_BY_LENGTH: usize = 15;
+const EMPTY_BY_PLAN: usize = 16;
 
 /// A line for the program, the line that it must print, each with its end, the answer's place in `KINDS`, and whether a table is refused
-/// for one of the bodies 5 to 8.
+/// for one of the bodies 5 to 8 or for its nodes.
 struct Question {
     line: String,
     answer: String,
     kind: usize,
     for_body: Option<String>,
+    for_nodes: Vec<String>,
 }
 
 fn main() -> ExitCode {
@@ -77,13 +84,14 @@ fn main() -> ExitCode {
 
 fn run(options: &Options) -> Result<(), String> {
     let questions = questions(options);
-    let (mut counts, mut for_bodies) = ([0; KINDS.len()], Lines::default());
+    let (mut counts, mut for_bodies, mut for_nodes) = ([0; KINDS.len()], Lines::default(), Lines::default());
     let (mut asked, mut runs) = (0, 0);
     while asked < questions.len() {
         let batch = next_batch(&questions[asked..]);
         compare(options, asked, batch)?;
         batch.iter().for_each(|question| counts[question.kind] += 1);
         batch.iter().filter_map(|question| question.for_body.clone()).for_each(|why| for_bodies.count(why));
+        batch.iter().flat_map(|question| question.for_nodes.clone()).for_each(|why| for_nodes.count(why));
         asked += batch.len();
         runs += 1;
     }
@@ -91,13 +99,16 @@ fn run(options: &Options) -> Result<(), String> {
     print(&counts);
     let wanted = turns::wanted_of_tables();
     for_bodies.print("  refusals by bodies 5 to 8", &wanted);
+    let wanted_of_nodes = formulas::wanted_of_tables();
+    for_nodes.print("  refusals by nodes", &wanted_of_nodes);
+    for_nodes.are_possible(&wanted_of_nodes)?;
     if asked < REACH_FROM {
         println!("what must be reached is asked for from {REACH_FROM} questions on");
         return Ok(());
     }
     match counts.iter().position(|&count| count == 0) {
         Some(kind) => Err(format!("NOT REACHED: {} {}", if kind < OF_A_ROOT { "table" } else { "sub tree" }, KINDS[kind])),
-        None => for_bodies.are_all(&wanted),
+        None => for_bodies.are_all(&wanted).and_then(|()| for_nodes.are_all(&wanted_of_nodes)),
     }
 }
 
@@ -135,7 +146,7 @@ fn report(options: &Options, number: usize, question: &Question, got: &str) -> S
 
 fn print(counts: &[u64]) {
     let refused: String = counts[1..OF_A_ROOT].iter().map(|count| format!(" {count}")).collect();
-    println!("  tables: {} accepted; refused 1 to 9:{refused}", counts[0]);
+    println!("  tables: {} accepted; refused 1 to 9 and 22:{refused}", counts[0]);
     let sub_trees: Vec<String> = (OF_A_ROOT..KINDS.len()).map(|kind| format!("{} {}", counts[kind], KINDS[kind])).collect();
     println!("  sub trees: {}", sub_trees.join(", "));
 }
@@ -154,8 +165,13 @@ fn questions(options: &Options) -> Vec<Question> {
     questions
 }
 
-/// A table, mostly small or of any size, half of them spoiled: its check, and some of its sub trees.
+/// A table, mostly small or of any size, half of them spoiled: its check, and some of its sub trees. Some have formulas of all kinds, which
+/// are broken.
 fn ask_about_a_table(dice: &mut Dice, questions: &mut Vec<Question>) {
+    if dice.percent(30) {
+        questions.push(check_of(&cases::table_of_broken_formulas(dice)).0);
+        return;
+    }
     let n = if dice.percent(60) { cases::plan_count(dice) } else { dice.between(1, reference::MOST_PLANS) };
     let mut table = cases::good_table(dice, n);
     if dice.percent(50) {
@@ -223,10 +239,11 @@ fn plan(dice: &mut Dice, n: usize) -> usize {
 fn check_of(table: &[u8]) -> (Question, bool) {
     let (answer, kind) = match reference::read_table(table) {
         Ok(plans) => (format!("accepted {}\n", plans.len()), 0),
+        Err(answer) if answer & 0xFFFF == 22 => (refusal_line(answer), OF_NODES),
         Err(answer) => (refusal_line(answer), (answer & 0xFFFF) as usize),
     };
-    let for_body = turns::why_refused(table);
-    (Question { line: format!("table {}\n", hex(table)), answer, kind, for_body }, kind == 0)
+    let (for_body, for_nodes) = (turns::why_refused(table), formulas::why_refused(table));
+    (Question { line: format!("table {}\n", hex(table)), answer, kind, for_body, for_nodes }, kind == 0)
 }
 
 fn sub_tree_of(table: &[u8], states: &[u8], plan: usize) -> Question {
@@ -240,5 +257,5 @@ fn sub_tree_of(table: &[u8], states: &[u8], plan: usize) -> Question {
         _ => OF_AN_INNER_PLAN,
     };
     let line = format!("subtree {} {} {plan}\n", hex(table), hex(states));
-    Question { line, answer: format!("{}\n", hex(part)), kind, for_body: None }
+    Question { line, answer: format!("{}\n", hex(part)), kind, for_body: None, for_nodes: vec![] }
 }

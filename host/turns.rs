@@ -192,7 +192,8 @@ pub fn why_refused(table: &[u8]) -> Option<String> {
     if reference::read_table(&unordered(table, p)).err() == Some(answer) {
         return None;
     }
-    let entries: Vec<&[u8]> = table[reference::HEADER_BYTES..].chunks_exact(reference::PLAN_BYTES).collect();
+    let n = reference::number_of_16_bits(table, 5);
+    let entries: Vec<&[u8]> = table[reference::HEADER_BYTES..].chunks_exact(reference::PLAN_BYTES).take(n).collect();
     let body = entries[p][2];
     if body > reference::IF_THEN_ELSE {
         return Some(undefined(body));

@@ -4,7 +4,7 @@
  * Three functions over byte buffers that the caller owns: one step, a run to rest, and the checker of treatment records. Three more make
  * what a word says of a pattern from how long the pattern has held. All are written in Rattle and proved (crate `tablet`). Link with
  * libasbru.a, which `make` writes for x86-64. docs/RULES.md has the rules in words, in numbered paragraphs; asbru_text.h, which is not
- * proved, has a text for each state, body and number.
+ * proved, has a text for each state, body, kind of node and number.
  *
  *
  * RULES 1 AND 2
@@ -25,9 +25,9 @@
  * (readable, and `states` and the annotation to be normalised writable), and `states` overlaps no other buffer of the call. Numbers are
  * little-endian. n is the number of plans, 1 to 256; plans are numbered from 0, parents before their children.
  *
- * Table: 8 + 8n bytes.
+ * Table: 8 + 8n bytes in version 1, and in version 2 the nodes behind them: 8 + 8n + 2 + 4k bytes.
  *   0-2  the mark 'A' 'P' 'T'
- *   3-4  the version of the format, ASBRU_FORMAT
+ *   3-4  the version, ASBRU_FORMAT or ASBRU_FORMAT_2: whether its plans wait for a number of children or for a formula
  *   5-6  n
  *   7    0
  *   then 8 bytes for each plan, in preorder (a plan, then all plans under its first child, then those under its second, ..):
@@ -39,7 +39,18 @@
  *   4    conditions present: the bits ASBRU_BIT of `enum asbru_condition`
  *   5    conditions that are manual, with the same bits; only of present ones
  *   6    conditions that are overridable, with the same bits; only of present ones
- *   7    wait number m: how many named children wait-for asks for; at most the number of named children, 0 of a leaf
+ *   7    of a leaf 0. In version 1 the wait number m: how many named children wait-for asks for; at most the number of named children.
+ *        In version 2 the number of the first node of the plan's formula
+ *   in version 2 then the number of nodes k, 16 bits, at most 256, and 4 bytes for each node, numbered from 0; asbru_put_nodes and
+ *   asbru_put_node put them:
+ *   0    its kind, one of `enum asbru_node`
+ *   1    a: of ASBRU_CHILD a child's rank, below the number of children of the plan in whose formula the node stands, be the child named
+ *        or not; of ASBRU_AT_LEAST how many named children there must be, at most those that the plan has; of any other kind the node that
+ *        it asks, its operand
+ *   2    b: of ASBRU_AND, ASBRU_OR and ASBRU_XOR the other operand; of any other kind 0
+ *   3    0
+ *   An operand has a higher number than the node that asks it, and is there. Each node is used exactly once: it is the first of one plan's
+ *   formula, or one operand of one node.
  *
  * States: n bytes, one of `enum asbru_state` for each plan. A treatment starts with all of them ASBRU_INACTIVE.
  *   Selection is Considered, Possible, Ready; execution Activated and Suspended; ended Completed, Aborted, Rejected. States that are
@@ -56,7 +67,7 @@
  *   ASBRU_ macros below; asbru_put_word puts it at its place. All other bits are 0.
  *
  * Record: 8 bytes, and 5n more for each of its 0 to 65535 steps.
- *   0-7  a header as the table's, with the mark 'A' 'P' 'R' and the same n
+ *   0-7  a header as the table's, with the mark 'A' 'P' 'R' and the same n; its version is ASBRU_FORMAT, whatever the table's
  *   then for each step 4n bytes of words, with pick bits 0 (ASBRU_PICK_BITS), and the n states after that step. Before step 1 all
  *   plans are Inactive.
  *
@@ -69,6 +80,14 @@
  *   suspends it: a leaf does so in the step after its activation, and so does a plan with wait number 0 and without wait-for-optional,
  *   before it has considered any child. A root without complete and without wait-for-optional whose wait number was forgotten gives an
  *   empty treatment that is in order.
+ * - A plan asks its wait-for twice: it is Aborted where wait-for does not hold of its children that are not lost, and its children let it
+ *   complete where it holds of the Completed ones. In version 1 wait-for holds of some children if at least m of them are named, in version
+ *   2 if the formula is true with each ASBRU_CHILD read as 'this child is one of them' and each ASBRU_AT_LEAST as 'at least a of them are
+ *   named'. The wait-for of a leaf always holds.
+ * - ASBRU_NOT counts as it stands, for loss too. A plan that waits for 'not child 0' is lost as soon as it is asked while child 0 is
+ *   neither Rejected nor Aborted: it is Aborted in the step after its activation, before it has considered any child. With ASBRU_XOR of
+ *   two children it is the same. So ASBRU_NOT is for children that have already failed, beside something that holds until then, as in
+ *   'child 1, or child 2 and not child 0'. Where child 0 need not be done, leave it out of the formula.
  * - A plan that is Considered is Rejected in the step in which its filter is present, does not hold, is not overridable and is not said
  *   to be satisfiable; a Possible one by its setup. It stays Rejected unless a plan above it is retried. So where nothing is known yet,
  *   the word of a plan that has them is not 0 but ASBRU_SATISFIABLE of both.
@@ -121,9 +140,9 @@
  *
  * An answer is number + plan * 2^16 + step * 2^32; asbru_number, asbru_plan and asbru_step_of take it apart. ASBRU_DONE is success, and
  * each function below says what plan and step then are. Any other number of `enum asbru_answer` is a refusal. Checks are made in the order
- * of the numbers, but 17 first, each over all plans before the next (asbru_check: 17, 1 to 9, 13, 14, then step by step 12 before 15;
- * asbru_pattern 18 to 20; asbru_normalise 18, 21, 26), so a refusal is the first thing wrong. `plan` is the lowest plan concerned; `step`
- * counts from 1; both are 0 where the list names none.
+ * of the numbers, but 17 first and 22 between 8 and 9, each over all plans before the next (asbru_check: 17, 1 to 8, 22, 9, 13, 14, then
+ * step by step 12 before 15; asbru_pattern 18 to 20; asbru_normalise 18, 21, 26), so a refusal is the first thing wrong. `plan` is the
+ * lowest plan concerned, of 22 the lowest node; `step` counts from 1; both are 0 where the list names none.
  *
  *
  * WHAT A CALL TOUCHES
@@ -131,9 +150,10 @@
  * `states` is all that is written, by asbru_step and asbru_rest, and the annotation by asbru_normalise, and only where the answer's number
  * is ASBRU_DONE: after a refusal they are as they were. Nothing is allocated, nothing is kept from one call to the next, and nothing global
  * is read or written, so calls from several threads are independent as long as no thread writes a buffer that another call uses: tables may
- * be shared, states may not. Every call returns. A call of the first three functions takes about 23 KiB of stack, whatever it is handed.
- * Its time grows with n, of asbru_rest with n for each step taken (at most 65535), of asbru_check with the record's length, of
- * asbru_pattern with the number of samples. The calls about patterns take less than 1 KiB.
+ * be shared, states may not. Every call returns. A call of the first three functions takes about 26 KiB of stack, whatever it is handed,
+ * and in version 2 up to 16 KiB more, the deeper a formula goes (256 nodes at most). Its time grows with n and k, of asbru_rest with both
+ * for each step taken (at most 65535), of asbru_check with the record's length, of asbru_pattern with the number of samples. The calls
+ * about patterns take less than 1 KiB.
  */
 #ifndef ASBRU_H
 #define ASBRU_H
@@ -146,15 +166,18 @@ extern "C" {
 #endif
 
 /* Raised by one whenever a function, a format, a number or a rule changes: CHANGELOG.md says how. */
-#define ASBRU_VERSION 4
+#define ASBRU_VERSION 5
 
 /* Limits, and the sizes of what buffers hold. */
 enum asbru_size {
-    ASBRU_FORMAT = 1, /* the version of tables and records */
-    ASBRU_HEADER = 8, /* bytes: of a table and of a record */
-    ASBRU_ENTRY = 8,  /* bytes: a plan's in a table */
-    ASBRU_WORD = 4,   /* bytes: a plan's among the words */
+    ASBRU_FORMAT = 1,   /* the version of records, and of tables whose plans wait for a number of children */
+    ASBRU_FORMAT_2 = 2, /* the version of tables whose plans wait for a formula */
+    ASBRU_HEADER = 8,   /* bytes: of a table and of a record */
+    ASBRU_ENTRY = 8,    /* bytes: a plan's in a table */
+    ASBRU_NODE = 4,     /* bytes: a node's in a table */
+    ASBRU_WORD = 4,     /* bytes: a plan's among the words */
     ASBRU_MOST_PLANS = 256,
+    ASBRU_MOST_NODES = 256,
     ASBRU_MOST_CHILDREN = 64, /* of one plan */
     ASBRU_MOST_STEPS = 65535, /* of a record, and the largest budget */
     ASBRU_MOST_SAMPLES = 1024, /* of a history */
@@ -187,6 +210,16 @@ enum asbru_flag {
     ASBRU_RETRY_ABORTED = 1,
     ASBRU_WAIT_FOR_OPTIONAL = 2,
     ASBRU_NAMED = 4 /* in the parent's wait-for */
+};
+
+/* Byte 0 of a node: what it asks of some children of the plan in whose formula it stands, and what its a and b are. */
+enum asbru_node {
+    ASBRU_CHILD,   /* the child of rank a is one of them; b is 0 */
+    ASBRU_NOT,     /* node a does not hold; b is 0. See WHAT WORDS DO before you use it */
+    ASBRU_AND,     /* nodes a and b hold */
+    ASBRU_OR,      /* node a or b holds, or both */
+    ASBRU_XOR,     /* one of nodes a and b holds, and the other does not */
+    ASBRU_AT_LEAST /* at least a of them are named; b is 0 */
 };
 
 /* The six conditions, by their bits in bytes 4 to 6 and in a word. */
@@ -266,20 +299,21 @@ enum asbru_answer {
     ASBRU_REFUSED_TABLE_SHORT = 1,
     /* the table's mark is wrong */
     ASBRU_REFUSED_TABLE_MARK = 2,
-    /* the table's version is not 1 */
+    /* the table's version is neither 1 nor 2 */
     ASBRU_REFUSED_TABLE_VERSION = 3,
     /* n is outside 1 to 256, or byte 7 of the table is not 0 */
     ASBRU_REFUSED_TABLE_COUNT = 4,
-    /* the table's length is not 8 + 8n */
+    /* the table's length is not 8 + 8n; in version 2 not 8 + 8n + 2 + 4k, or under 8 + 8n + 2 */
     ASBRU_REFUSED_TABLE_LENGTH = 5,
     /* [plan] the parent rule is broken, or a plan has a 65th child (which is then the plan named) */
     ASBRU_REFUSED_PARENT = 6,
     /* [plan] the body is above 8, or an unused bit is set in bytes 3 to 6 */
     ASBRU_REFUSED_UNDEFINED = 7,
     /* [plan] the body does not fit the children; a body from ASBRU_ON_ABORT on has another number of children than two, or retry-aborted;
-       an absent condition is manual or overridable; plan 0 is named; a leaf has a wait number, retry-aborted or wait-for-optional */
+       an absent condition is manual or overridable; plan 0 is named; a leaf has a byte 7 other than 0, retry-aborted or
+       wait-for-optional */
     ASBRU_REFUSED_UNFIT = 8,
-    /* [plan] the wait number is above the number of named children */
+    /* [plan] the wait number, or in version 2 that of an ASBRU_AT_LEAST in the plan's formula, is above the number of named children */
     ASBRU_REFUSED_WAIT = 9,
     /* the states are not n bytes or the words not 4n; never of asbru_check */
     ASBRU_REFUSED_LENGTHS = 10,
@@ -309,6 +343,12 @@ enum asbru_answer {
     ASBRU_REFUSED_TIMES_ORDER = 20,
     /* the annotation to be normalised admits no interval */
     ASBRU_REFUSED_NO_INTERVAL = 21,
+    /* [0, or in the plan's place a node; looked for after 8 and before 9] of a table of version 2: with 0, there are more than 256 nodes,
+       or byte 7 of a plan with children names a node that is not there. Else the lowest node whose kind is above 5, whose last byte is
+       not 0, whose b is not 0 though its kind has none, one of whose operands is not above it or not there, or which is not used exactly
+       once. Where no node is so, the lowest ASBRU_CHILD whose rank is not below the number of children of the plan in whose formula it
+       stands */
+    ASBRU_REFUSED_FORMULA = 22,
     /* a number of the normal form is out of range */
     ASBRU_REFUSED_NORMAL_RANGE = 26
 };
@@ -331,7 +371,7 @@ uint64_t asbru_rest(uint32_t rule, const uint8_t *table, size_t table_length, ui
 /*
  * Whether a treatment record can come from the rules under a table, by the rule named and for some picks. ASBRU_DONE, with plan 0:
  * accepted, and step is the number of steps. It writes nothing. With rule 1 or 2 and an empty record it tells whether a table is good:
- * ASBRU_REFUSED_RECORD_HEADER, exactly where no number from 1 to 9 is given.
+ * ASBRU_REFUSED_RECORD_HEADER, exactly where none of the numbers 1 to 9 and 22 is given.
  */
 uint64_t asbru_check(uint32_t rule, const uint8_t *table, size_t table_length, const uint8_t *record, size_t record_length);
 
@@ -388,10 +428,29 @@ static inline uint32_t asbru_get_word(const uint8_t *words, size_t plan) {
     return word;
 }
 
-/* Puts the header of a table ('T') or of a record ('R') of so many plans at the start of its bytes. */
+/* Puts the header of a table ('T') or of a record ('R') of so many plans at the start of its bytes; a table's is of version 1. */
 static inline void asbru_put_header(uint8_t *bytes, char kind, unsigned plans) {
     const uint8_t header[ASBRU_HEADER] = {'A', 'P', (uint8_t)kind, ASBRU_FORMAT, 0, (uint8_t)plans, (uint8_t)(plans >> 8), 0};
     for (size_t k = 0; k < ASBRU_HEADER; k++) bytes[k] = header[k];
+}
+
+/* Where a node of a table of version 2 stands; with the number of its nodes, the length of the table. */
+static inline size_t asbru_node_at(size_t plans, size_t node) {
+    return ASBRU_HEADER + ASBRU_ENTRY * plans + 2 + ASBRU_NODE * node;
+}
+
+/* Makes a table whose header is there one of version 2, with so many nodes. */
+static inline void asbru_put_nodes(uint8_t *table, size_t plans, unsigned nodes) {
+    uint8_t *count = table + ASBRU_HEADER + ASBRU_ENTRY * plans;
+    table[3] = ASBRU_FORMAT_2;
+    count[0] = (uint8_t)nodes;
+    count[1] = (uint8_t)(nodes >> 8);
+}
+
+/* Puts a node at its place in a table of version 2: its kind, one of `enum asbru_node`, a, and b, 0 where the kind has none. */
+static inline void asbru_put_node(uint8_t *table, size_t plans, size_t node, unsigned kind, unsigned a, unsigned b) {
+    const uint8_t bytes[ASBRU_NODE] = {(uint8_t)kind, (uint8_t)a, (uint8_t)b, 0};
+    for (size_t k = 0; k < ASBRU_NODE; k++) table[asbru_node_at(plans, node) + k] = bytes[k];
 }
 
 /* The bytes of one step of a record. */

@@ -1,6 +1,6 @@
 /*
- * asbru_text.h: a text for each state, body and answer's number of asbru.h, for what a host shows to people. NOT PROVED: these are words
- * and nothing more. docs/RULES.md says more of each number, in paragraph 10.number.
+ * asbru_text.h: a text for each state, body, kind of node and answer's number of asbru.h, for what a host shows to people. NOT PROVED:
+ * these are words and nothing more. docs/RULES.md says more of each number, in paragraph 10.number.
  */
 #ifndef ASBRU_TEXT_H
 #define ASBRU_TEXT_H
@@ -39,21 +39,34 @@ static inline const char *asbru_body_text(unsigned body) {
     }
 }
 
-/* What an answer's number means, in half a sentence that can follow the plan and step that the answer names. */
+/* What a node asks, by its kind; of a byte that is no kind, text that says so. */
+static inline const char *asbru_node_text(unsigned kind) {
+    switch (kind) {
+    case ASBRU_CHILD: return "child of a rank";
+    case ASBRU_NOT: return "not";
+    case ASBRU_AND: return "and";
+    case ASBRU_OR: return "or";
+    case ASBRU_XOR: return "xor";
+    case ASBRU_AT_LEAST: return "at least so many named children";
+    default: return "none that has a meaning";
+    }
+}
+
+/* What an answer's number means, in half a sentence that can follow the plan and step that the answer names; of 22 the node, or nothing. */
 static inline const char *asbru_number_text(unsigned number) {
     switch (number) {
     case ASBRU_DONE: return "done";
     case ASBRU_REFUSED_TABLE_SHORT: return "the table is shorter than its header of 8 bytes";
     case ASBRU_REFUSED_TABLE_MARK: return "the table does not begin with its mark APT";
-    case ASBRU_REFUSED_TABLE_VERSION: return "the table's version is not 1";
+    case ASBRU_REFUSED_TABLE_VERSION: return "the table's version is neither 1 nor 2";
     case ASBRU_REFUSED_TABLE_COUNT: return "the table does not count 1 to 256 plans, or byte 7 of its header is not 0";
-    case ASBRU_REFUSED_TABLE_LENGTH: return "the table's length does not fit the number of plans that it counts";
+    case ASBRU_REFUSED_TABLE_LENGTH: return "the table's length does not fit the plans and nodes that it counts";
     case ASBRU_REFUSED_PARENT: return "its parent is neither the plan before it nor above that one, or it is a 65th child";
     case ASBRU_REFUSED_UNDEFINED: return "its body is above 8, or its entry has a bit without a meaning";
     case ASBRU_REFUSED_UNFIT:
         return "its body does not fit its children or its retry-aborted, an absent condition is manual or overridable, it is the root "
                "and named, or it is a leaf that waits or retries";
-    case ASBRU_REFUSED_WAIT: return "its wait number is above the number of its named children";
+    case ASBRU_REFUSED_WAIT: return "it waits for more named children than it has";
     case ASBRU_REFUSED_LENGTHS: return "the states or the words have not the length that the number of plans asks for";
     case ASBRU_REFUSED_STATE: return "its state cannot stand beside those of the plans before it";
     case ASBRU_REFUSED_WORD:
@@ -67,6 +80,9 @@ static inline const char *asbru_number_text(unsigned number) {
     case ASBRU_REFUSED_MANY_SAMPLES: return "there are more than 1024 samples";
     case ASBRU_REFUSED_TIMES_ORDER: return "the samples' minutes do not rise, or the last is after the minute of asking";
     case ASBRU_REFUSED_NO_INTERVAL: return "the annotation admits no interval";
+    case ASBRU_REFUSED_FORMULA:
+        return "it has a byte without a meaning, an operand that is not above it or not there, another number of uses than one, or a rank "
+               "without a child; or, where 0 is named, the table may have over 256 nodes or a formula whose first node is not there";
     case ASBRU_REFUSED_NORMAL_RANGE: return "a number of the normal form is out of range";
     default: return "no number of this library";
     }

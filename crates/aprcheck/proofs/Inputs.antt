@@ -1,10 +1,10 @@
 -- How long an input's table is, case by case, and what the verdict on its two parts answers. Assumes nothing.
-use Prim.Native.Nat.{ℕ, _+_, _*_, _-_, _≤_, _<_}
+use Prim.Native.Nat.{ℕ, _-_, _≤_, _<_}
 use mathlib.Core.Path.{_≡_}
 use mathlib.Core.List.{List}
 use lib.ListN.{length, take, drop}
 use borrow.Author.Tests.{le-leb, lt-leb}
-use Rattle.rules.specs.Table.{planCount}
+use Rattle.rules.specs.WaitFor.{tableSize}
 use Rattle.rules.specs.Answers.{headerCheck, Judged}
 use Rattle.rules.specs.Program.{tableLength, Answered, judged}
 use Rattle.rules.specs.declared.Refusal.{Refusal}
@@ -18,11 +18,11 @@ module _ (input : List ℕ) where
   all-of-refused why e = simp e
 
   module _ (done : headerCheck input ≡ Done) where
-    pub whole-table : 8 + 8 * planCount input ≤ length input → tableLength input ≡ 8 + 8 * planCount input
+    pub whole-table : tableSize input ≤ length input → tableLength input ≡ tableSize input
     unfolding tableLength
     whole-table l = simp (done, le-leb _ _ l)
 
-    pub all-of-short : length input < 8 + 8 * planCount input → tableLength input ≡ length input
+    pub all-of-short : length input < tableSize input → tableLength input ≡ length input
     unfolding tableLength
     all-of-short l = simp (done, lt-leb _ _ l)
 

@@ -53,7 +53,7 @@ fn table_length(input: &[u8]) -> usize
     match table::header_check(input) {
         Outcome::Refused(_) => input.len(),
         Outcome::Done => {
-            let whole = 8 + 8 * (plan_count(input) as usize);
+            let whole = table::table_size(input);
             if whole <= input.len() {
                 whole
             } else {
@@ -67,14 +67,7 @@ fn table_length(input: &[u8]) -> usize
 fn plan_count(input: &[u8]) -> u16
     ensures { λ r. ⌜ r ≡ planCount (now (input .entry)) ⌝ }
 {
-    wide(text::byte_at(input, 5)) + 256 * wide(text::byte_at(input, 6))
-}
-
-// A byte as a number of 16 bits.
-fn wide(b: u8) -> u16
-    ensures { λ r. ⌜ (r ≡ b) × (r < 256) ⌝ }
-{
-    b as u16
+    reading::u16_within(input, 5)
 }
 
 // Puts the line for a verdict on a table of n plans at the start of `out`, and answers where it ends.

@@ -330,7 +330,7 @@ enum Head {
 fn head_of(w: &[u8]) -> Head
     ensures { λ r. ⌜ r ≡ Lines.headOf (now (w .entry)) ⌝ }
 {
-    if (w.len() == 0) | (text::byte_at(w, 0) == b'#') {
+    if (w.len() == 0) | (reading::byte_at(w, 0) == b'#') {
         return Head::Nothing;
     }
     keyword(w)
@@ -496,7 +496,7 @@ fn bound(w: &[u8], other: u64) -> Value
 fn number(w: &[u8]) -> Value
     ensures { λ r. ⌜ r ≡ Words.number (now (w .entry)) ⌝ }
 {
-    if text::byte_at(w, 0) == b'-' {
+    if reading::byte_at(w, 0) == b'-' {
         return negative(unsigned(&w[1..]));
     }
     unsigned(w)

@@ -13,6 +13,7 @@ use Rattle.rules.specs.Lists.{same, leastFrom}
 use Rattle.rules.specs.Bytes.{byteAt}
 use Rattle.rules.specs.States.{stateAt}
 use Rattle.rules.specs.Table.{planCount, childrenBefore, children, rank, isOrIsAbove}
+use Rattle.rules.specs.WaitFor.{waitFor}
 use Rattle.rules.specs.Words.{holds, satisfiable}
 use Rattle.rules.specs.Step.{
   move,
@@ -40,6 +41,7 @@ use Rattle.rules.specs.Answers.{
   badParent,
   undefinedByte,
   unfit,
+  tooMany,
   badWait,
   headerCheck,
   plansCheck,
@@ -197,8 +199,8 @@ differ-1 e = omega (arith, e)
 
 pub lively : Lively
 unfolding
-    leastFrom stateAt childrenBefore children rank isOrIsAbove holds satisfiable move tooManyLost allEnded childrenComplete firstNotDone
-    gateOpen mayActivate chosen due orders stepFirst stepBy stepUnder undefinedEntry unfitEntry unrooted badParent undefinedByte unfit badWait
+    leastFrom stateAt childrenBefore children rank isOrIsAbove waitFor holds satisfiable move tooManyLost allEnded childrenComplete firstNotDone
+    gateOpen mayActivate chosen due orders stepFirst stepBy stepUnder undefinedEntry unfitEntry unrooted badParent undefinedByte unfit tooMany badWait
     _andThen_ refuseIf refuseAt headerCheck plansCheck ruleCheck tableCheck badRecordWord formCheck recordCheck wordsCheck tableLength
     activatedChild witness
 lively =

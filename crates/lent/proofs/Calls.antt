@@ -1,5 +1,5 @@
 -- Laws of checks 10 to 12, and of calls that pass. Assumes nothing.
-use Prim.Native.Nat.{ℕ, _*_, _≤_, _<_}
+use Prim.Native.Nat.{ℕ, _+_, _*_, _≤_, _<_}
 use native.Mathlib.Omega.{arith}
 use mathlib.Core.Path.{_≡_, sym, _∙_}
 use mathlib.Core.Bool.{true, false, not, _||_}
@@ -35,7 +35,7 @@ use Rattle.rules.proofs.Outcomes.{
 use Rattle.rules.proofs.Least.{nowhere}
 use Rattle.rules.proofs.Tree.{or-left, or-right, passes, tree}
 use Rattle.children.specs.Sets.{Rooted}
-use Rattle.table.specs.Lowest.{Lowest}
+use Rattle.lowest.specs.Lowest.{Lowest}
 use Rattle.table.specs.Facts.{Facts}
 use Rattle.table.proofs.Reading.{found-at, found-none, prepared}
 use Rattle.demands.specs.PassesStates.{PassesStates}
@@ -137,8 +137,8 @@ module _ (rule : ℕ) (t s w ranks counts names : List ℕ) where
 
   -- where it passes the plans may move
   pub may-move :
-      callCheck rule t s w ≡ Done → Facts t ranks counts names → planCount t ≤ length ranks → planCount t ≤ length names
-      → MayMove t s w ranks names
+      callCheck rule t s w ≡ Done → Facts t ranks counts names → planCount t ≤ length ranks
+      → planCount t + planCount t ≤ length names → MayMove t s w ranks names
   may-move d known ranks-room names-room =
       record {
         prepared = prepared t ranks counts names (table-passes rule t s w d) known ranks-room names-room;

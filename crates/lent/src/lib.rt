@@ -8,7 +8,7 @@ ghost use Rattle.rules.specs.Step.{done};
 ghost use Rattle.rules.specs.HandedIn.{suits, letsLater, badState};
 ghost use Rattle.rules.specs.Answers.{wrongWord, badWord, lentCheck};
 ghost use Rattle.table.specs.Facts.{FactsRoom};
-ghost use Rattle.table.specs.Lowest.{Lowest};
+ghost use Rattle.lowest.specs.Lowest.{Lowest};
 ghost use Rattle.lent.specs.BodyRule.{standsAlone, breaksBy};
 ghost use Rattle.lent.specs.WordBits.{unusedBits, wrongBits};
 ghost use Rattle.lent.specs.Calls.{Planned, Counted, Tabled, Called};

@@ -5,6 +5,7 @@ use mathlib.Core.Bool.{
   Bool,
   true,
   false,
+  cond,
   _&&_,
   _||_,
   not,
@@ -15,8 +16,8 @@ use mathlib.Core.Bool.{
   Bool·not-not,
 }
 use Prim.Native.Nat.{ℕ, _+_, _-_, _*_, _^_}
-use lib.Bits.{bitAnd, bitOr}
-use lib.Count.{ones, trailingZeros}
+use lib.Bits.{bitOr}
+use lib.Count.{trailingZeros}
 use lib.Dec.{T, eqb}
 use lib.ListN.{getD}
 use Rattle.rules.specs.Bytes.{isSet}
@@ -29,12 +30,11 @@ use Rattle.rules.specs.Table.{
   named,
   retryAborted,
   waitForOptional,
-  enough,
-  waitFor,
   children,
   firstChild,
   rank,
 }
+use Rattle.rules.specs.WaitFor.{waitFor}
 use Rattle.rules.specs.Step.{
   done,
   lostStates,
@@ -79,9 +79,6 @@ use Rattle.rules.specs.declared.PlanState.the-variants.{
 use Rattle.children.specs.Sets.{setOf}
 use Rattle.children.proofs.Sets.{
   set-or,
-  set-and,
-  set-less,
-  set-ones,
   set-none,
   set-passing,
   set-not-passing,
@@ -93,7 +90,8 @@ use Rattle.children.proofs.Sets.{
 use Rattle.rules.specs.Demands.{SubPlan}
 use Rattle.rules.proofs.Digits.{bit}
 use Rattle.moves.specs.ChildWords.{HasTwo, ChildWords}
-use Rattle.moves.specs.Tells.{OwnEntry, InStates}
+use Rattle.formulas.specs.Asked.{TellsWaitFor}
+use Rattle.moves.specs.Tells.{unended, keptStates, InStates}
 
 -- Tests of a state, and of all in a list.
 
@@ -104,10 +102,7 @@ one-of-append (x ∷ xs) ys state =
     or-assoc (eqb (code state) (code x)) (oneOf xs state) (oneOf ys state)
     ∙ ap (λ (b : Bool). eqb (code state) (code x) || b) (one-of-append xs ys state)
 
--- the states that are not ended
-abbrev pub unended : List PlanState
-unended = Inactive ∷ Considered ∷ Possible ∷ Ready ∷ Activated ∷ Suspended ∷ []
-
+-- the states that are not ended are the others
 not-unended : (state : PlanState) → not (oneOf unended state) ≡ ended state
 not-unended Inactive = refl
 not-unended Considered = refl
@@ -140,14 +135,36 @@ not-some : (f g : ℕ → Bool) → ((c : ℕ) → not (f c) ≡ g c) → (l : L
 not-some f g e [] = refl
 not-some f g e (c ∷ l) = not-or (f c) (some f l) ∙ ap₂ (λ (a b : Bool). a && b) (e c) (not-some f g e l)
 
+-- a child is not lost where it is in one of the kept states
+kept-of : (spared : Bool) (state : PlanState) → oneOf (unended ++ Completed ∷ cond spared (Aborted ∷ []) []) state
+    ≡ not (oneOf (cond spared (Rejected ∷ []) (Rejected ∷ Aborted ∷ [])) state)
+kept-of true Inactive = refl
+kept-of true Considered = refl
+kept-of true Possible = refl
+kept-of true Ready = refl
+kept-of true Activated = refl
+kept-of true Suspended = refl
+kept-of true Completed = refl
+kept-of true Aborted = refl
+kept-of true Rejected = refl
+kept-of false Inactive = refl
+kept-of false Considered = refl
+kept-of false Possible = refl
+kept-of false Ready = refl
+kept-of false Activated = refl
+kept-of false Suspended = refl
+kept-of false Completed = refl
+kept-of false Aborted = refl
+kept-of false Rejected = refl
+
+not-lost : (rule : ℕ) (again : Bool) (state : PlanState) → oneOf (keptStates rule again) state ≡ not (oneOf (lostStates rule again) state)
+not-lost rule again = kept-of (eqb rule 2 && again)
+
 -- Words by state.
 
--- wait-for, asked of the word of the named children that pass a test
-waits :
-    (t : List ℕ) (q : ℕ) (e : PlanEntry) (w : ℕ) (f : ℕ → Bool) → e ≡ entry t q
-    → w ≡ setOf t q (λ c. named (entry t c) && f c) → enough e (ones w) ≡ waitFor t q f
-waits t q e w f ee ew =
-    ap₂ (λ (e : PlanEntry) (k : ℕ). enough e k) ee (ap ones ew ∙ set-ones t q (λ c. named (entry t c) && f c))
+pub none-lost : (t s : List ℕ) (q rule : ℕ) → ((f : ℕ → Bool) → true ≡ waitFor t q f) → false ≡ tooManyLost t s rule q
+unfolding tooManyLost
+none-lost t s q rule holds = ap not (holds (λ c. not (oneOf (lostStates rule (retryAborted (entry t q))) (stateAt s c))))
 
 module _ {t s : List ℕ} {q : ℕ} where
   -- the words that the code reads, and their unions
@@ -197,27 +214,22 @@ module _ {t s : List ℕ} {q : ℕ} where
       is-none h
       ∙ not-some (λ c. oneOf unended (stateAt s c)) (λ c. ended (stateAt s c)) (λ c. not-unended (stateAt s c)) (children t q)
 
-  -- how many named children are in one of the states, or in none
-  module _ {e : PlanEntry} {names : ℕ} (own : OwnEntry t q e names) where
-    pub lost-is :
-        (rule : ℕ) {lost : ℕ} → InStates t s q (lostStates rule (retryAborted e)) lost
-        → not (enough e (ones (names - bitAnd names lost))) ≡ tooManyLost t s rule q
-    unfolding tooManyLost
-    lost-is rule h =
-        let lost : ℕ → Bool = (λ c. oneOf (lostStates rule (retryAborted (entry t q))) (stateAt s c)) in
-        ap not
-        (waits t q _ _ (λ c. not (lost c)) (own .is)
-        (rw (own .collected, (rw (own .is) at h) .word) (set-less t q (λ c. named (entry t c)) lost)))
+  -- wait-for of the children that are not lost, and of the Completed ones
+  pub lost-is :
+      (rule : ℕ) {again : Bool} {kept : ℕ} {holds : Bool} → again ≡ retryAborted (entry t q) → InStates t s q (keptStates rule again) kept
+      → TellsWaitFor t q kept holds → not holds ≡ tooManyLost t s rule q
+  unfolding tooManyLost
+  lost-is rule e h tells =
+      ap not (tells (λ c. not (oneOf (lostStates rule (retryAborted (entry t q))) (stateAt s c)))
+      ((rw e at h) .word ∙ simp (not-lost rule (retryAborted (entry t q)))))
 
-    pub complete-is :
-        {completed : ℕ} {over : Bool} → InStates t s q (Completed ∷ []) completed → over ≡ allEnded t s q
-        → (enough e (ones (bitAnd names completed)) && (not (waitForOptional e) || over)) ≡ childrenComplete t s q
-    unfolding childrenComplete
-    complete-is h eo =
-        ap₂ (λ (a b : Bool). a && b)
-        (waits t q _ _ (λ c. is Completed (stateAt s c)) (own .is)
-        (rw (own .collected, h .word) (set-and t q (λ c. named (entry t c)) (λ c. is Completed (stateAt s c)))))
-        (ap₂ (λ (e : PlanEntry) (b : Bool). not (waitForOptional e) || b) (own .is) eo)
+  pub complete-is :
+      {completed : ℕ} {holds over : Bool} → InStates t s q (Completed ∷ []) completed → TellsWaitFor t q completed holds
+      → over ≡ allEnded t s q → (holds && (not (waitForOptional (entry t q)) || over)) ≡ childrenComplete t s q
+  unfolding childrenComplete
+  complete-is h tells eo =
+      ap₂ (λ (a b : Bool). a && b) (tells (λ c. is Completed (stateAt s c)) (h .word))
+      (ap (λ (b : Bool). not (waitForOptional (entry t q)) || b) eo)
 
   -- of two children a word is made by the first and the second
   pub of-two :

@@ -96,9 +96,9 @@ module _
 
 -- all that the move of a plan reads, from what is known of all plans
 pub move-facts :
-    (t s ranks names sets picks w new : List ℕ) → StepFacts t s ranks sets picks → Names t names → (p : ℕ) → p < planCount t
-    → p ≤ length new → 4 * p + 4 ≤ length w → MoveFacts t s ranks names sets picks w new p
-move-facts t s ranks names sets picks w new facts named p within new-room word-room =
+    (t s ranks names sets picks w new : List ℕ) → StepFacts t s ranks sets picks → Names t names → (n : ℕ) → n ≡ planCount t → (p : ℕ)
+    → p < planCount t → p ≤ length new → 4 * p + 4 ≤ length w → MoveFacts t n s ranks names sets picks w new p
+move-facts t s ranks names sets picks w new facts named n whole p within new-room word-room =
     let entry-room : 8 * p + 16 ≤ length t = omega (arith, facts .long) in
     record {
       facts = facts;
@@ -107,8 +107,14 @@ move-facts t s ranks names sets picks w new facts named p within new-room word-r
       children =
           record {
             entry-room = entry-room;
-            names-room = omega (arith, named .room);
-            collected = named .collected p within;
+            waits =
+                record {
+                  table = rw whole (named .waiting);
+                  within = omega arith;
+                  names-room = omega (arith, named .room);
+                  collected = named .collected p within;
+                  number = rw whole (named .numbers p within);
+                };
             has-words = record { small = omega (arith, facts .small); sets-room = omega (arith, facts .sets-room) };
           };
       parent-room = λ h. omega (arith, facts .down p h within);

@@ -6,6 +6,7 @@ use lib.ListN.{length, getD}
 use Rattle.rules.specs.Bytes.{byteAt}
 use Rattle.rules.specs.Table.{planCount, parent, entry, named, rank}
 use Rattle.children.specs.Sets.{setOf}
+use Rattle.formulas.specs.Asked.{numberAsked, Waiting, WaitKnown}
 use Rattle.moves.specs.ChildWords.{HasWords, ChildWords}
 
 -- the picks that a list holds, a byte for each plan
@@ -17,7 +18,7 @@ picksOf picks q = byteAt picks q
 pub record StepFacts (t s ranks sets picks : List ℕ) : Type 0 where
   pub some : 0 < planCount t
   pub small : planCount t ≤ 256
-  pub long : length t ≡ 8 + 8 * planCount t
+  pub long : 8 + 8 * planCount t ≤ length t
   pub states-room : planCount t ≤ length s
   pub ranks-room : planCount t ≤ length ranks
   pub sets-room : planCount t * 9 ≤ length sets
@@ -27,27 +28,28 @@ pub record StepFacts (t s ranks sets picks : List ℕ) : Type 0 where
   pub children : (q : ℕ) → q < planCount t → ChildWords t s q sets
   pub picks-small : (q : ℕ) → q < planCount t → picksOf picks q < 64
 
--- for each plan the word of its named children
+-- for each plan the word of its named children, and behind these how many of them it waits for
 pub record Names (t names : List ℕ) : Type 0 where
-  pub room : planCount t ≤ length names
+  pub waiting : Waiting t (planCount t)
+  pub room : planCount t + planCount t ≤ length names
   pub collected : (q : ℕ) → q < planCount t → getD names q 0 ≡ setOf t q (λ c. named (entry t c))
+  pub numbers : (q : ℕ) → q < planCount t → getD names (planCount t + q) 0 ≡ numberAsked t q
 
 -- plan p's entry and word have their place
 pub record OwnBytes (t w : List ℕ) (p : ℕ) : Type 0 where
   pub entry-room : 8 * p + 16 ≤ length t
   pub word-room : 4 * p + 4 ≤ length w
 
--- plan p's entry, the word of its named children and the words of its children by state have theirs
-pub record OwnChildren (t names sets : List ℕ) (p : ℕ) : Type 0 where
+-- plan p's entry, what it waits for and the words of its children by state have theirs
+pub record OwnChildren (t : List ℕ) (n : ℕ) (names sets : List ℕ) (p : ℕ) : Type 0 where
   pub entry-room : 8 * p + 16 ≤ length t
-  pub names-room : p < length names
-  pub collected : getD names p 0 ≡ setOf t p (λ c. named (entry t c))
+  pub waits : WaitKnown t n names p
   pub has-words : HasWords sets p
 
 -- all that the move of plan p reads, where `new` has the new states of the plans before it
-pub record MoveFacts (t s ranks names sets picks w new : List ℕ) (p : ℕ) : Type 0 where
+pub record MoveFacts (t : List ℕ) (n : ℕ) (s ranks names sets picks w new : List ℕ) (p : ℕ) : Type 0 where
   pub facts : StepFacts t s ranks sets picks
   pub within : p < planCount t
   pub own : OwnBytes t w p
-  pub children : OwnChildren t names sets p
+  pub children : OwnChildren t n names sets p
   pub parent-room : 0 < p → parent t p < length new

@@ -2,12 +2,12 @@
 -- words are of. What other words would mean is nobody's question. Assumes nothing.
 use Prim.Native.Nat.{ℕ}
 use mathlib.Core.Path.{_≡_}
-use mathlib.Core.Bool.{Bool}
-use mathlib.Core.List.{List}
+use mathlib.Core.Bool.{Bool, cond, _&&_}
+use mathlib.Core.List.{List, [], _∷_, _++_}
 use lib.Dec.{eqb}
 use Rattle.rules.specs.Lists.{all}
 use Rattle.rules.specs.States.{stateAt, oneOf, is, ended}
-use Rattle.rules.specs.Table.{entry, bodyOf, named, retryAborted, children, rank}
+use Rattle.rules.specs.Table.{entry, bodyOf, retryAborted, children, rank}
 use Rattle.rules.specs.Demands.{SubPlan}
 use Rattle.rules.specs.Words.{word}
 use Rattle.rules.specs.Step.{
@@ -31,13 +31,25 @@ use Rattle.rules.specs.declared.Body.{Body}
 use Rattle.rules.specs.declared.PlanEntry.{PlanEntry}
 use Rattle.rules.specs.declared.Orders.{Orders}
 use Rattle.rules.specs.declared.PlanState.{PlanState}
+use Rattle.rules.specs.declared.PlanState.the-variants.{
+  Inactive,
+  Considered,
+  Possible,
+  Ready,
+  Activated,
+  Suspended,
+  Completed,
+  Aborted,
+}
 use Rattle.children.specs.Sets.{setOf}
 use Rattle.moves.specs.ChildWords.{HasTwo, ChildWords}
 
--- e is the entry of plan q, and names the word of its named children
-pub record OwnEntry (t : List ℕ) (q : ℕ) (e : PlanEntry) (names : ℕ) : Type 0 where
-  pub is : e ≡ entry t q
-  pub collected : names ≡ setOf t q (λ c. named (entry t c))
+-- the states that are not ended, and those of children that are not lost by a rule, where the plan has retry-aborted or not
+abbrev pub unended : List PlanState
+unended = Inactive ∷ Considered ∷ Possible ∷ Ready ∷ Activated ∷ Suspended ∷ []
+
+abbrev pub keptStates : ℕ → Bool → List PlanState
+keptStates rule again = unended ++ Completed ∷ cond (eqb rule 2 && again) (Aborted ∷ []) []
 
 -- w is the word of q's children that are in one of the states ys
 pub record InStates (t s : List ℕ) (q : ℕ) (ys : List PlanState) (w : ℕ) : Type 0 where

@@ -1,5 +1,6 @@
 // The next state of one plan: what its children say, what its parent orders it to do, and the move. Document 01, 'One step'.
-// Every function here costs O(1). Assumes a table that has passed its checks and the words of its plans' children (`StepFacts`).
+// Every function here costs O(1); where a plan waits for a formula, what asks it costs O(its nodes). Assumes a table that has passed its
+// checks and the words of its plans' children (`StepFacts`).
 ghost use mathlib.Core.Path.{_≡_};
 ghost use Prim.Native.Nat.{ℕ, _+_, _*_, _<_, _≤_};
 ghost use lib.ListN.{length, getD};
@@ -9,14 +10,16 @@ ghost use Rattle.rules.specs.Table.{planCount, parent, entry};
 ghost use Rattle.rules.specs.Words.{word};
 ghost use Rattle.rules.specs.Words.{holds as Words·holds, satisfiable as Words·satisfiable};
 ghost use Rattle.rules.specs.declared.PlanState.the-variants.{Inactive, Considered, Possible, Activated, Suspended};
-ghost use Rattle.rules.specs.Step.{none, rootOrders, ordersOfTwo, ordersOf, afterAbort, afterSuspend, lostStates, newState};
+ghost use Rattle.rules.specs.Step.{none, rootOrders, ordersOfTwo, ordersOf, afterAbort, afterSuspend, newState};
 ghost use Rattle.rules.specs.Step.{chosen as Step·chosen};
 ghost use Rattle.moves.specs.ChildWords.{HasWords};
 ghost use Rattle.moves.specs.Tells.{TellsFirstNotDone, TellsGate, TellsMayActivate, TellsChosenRank, TellsOrders, TellsOrdersIf};
-ghost use Rattle.moves.specs.Tells.{TellsEachEnded, TellsAllEnded, TellsLost, TellsComplete, TellsWord};
+ghost use Rattle.moves.specs.Tells.{unended, keptStates, TellsEachEnded, TellsAllEnded, TellsLost, TellsComplete, TellsWord};
 ghost use Rattle.moves.specs.Tells.{TellsBadTurn, TellsBranch, TellsDue, TellsBothEnded};
 ghost use Rattle.moves.specs.Parents.{parentState, ordersAt};
 ghost use Rattle.moves.specs.StepFacts.{picksOf, StepFacts, OwnBytes, OwnChildren, MoveFacts};
+use formulas::wait_for;
+use formulas::waits_for_none;
 use reading::entry_at;
 use reading::parent_at;
 use reading::word_at;
@@ -39,12 +42,14 @@ use rules::is_set;
 // under an Inactive one the rest of the first test.
 // `rule` is the number of the rule, which says what children are lost; `table` has the plans' entries, `words` their input words, `old`
 // the states before the step, `new` the new states of the plans before p, its parent's among them: parents stand before their children,
-// and plans move in table order. For each plan, `ranks` has its rank among its siblings, `names` its children that are named in its
-// wait-for, `sets` its children by old state, `picks` the rank that it picks. The root acts as if under a parent that stays Activated,
-// considers it when Inactive, activates it when Ready and never retries it.
+// and plans move in table order. n is the number of plans. For each plan, `ranks` has its rank among its siblings, `names` its children
+// that are named in its wait-for and, from n on, how many of these it waits for, `sets` its children by old state, `picks` the rank that
+// it picks. The root acts as if under a parent that stays Activated, considers it when Inactive, activates it when Ready and never
+// retries it.
 pub fn next_state(
     rule: u32,
     table: &[u8],
+    n: usize,
     ranks: &[u8],
     names: &[u64],
     sets: &[u64],
@@ -54,7 +59,7 @@ pub fn next_state(
     new: &[u8],
     p: usize,
 ) -> PlanState
-    requires { ⌜ MoveFacts (now table) (now old) (now ranks) (now names) (now sets) (now picks) (now words) (now new) p ⌝ }
+    requires { ⌜ MoveFacts (now table) n (now old) (now ranks) (now names) (now sets) (now picks) (now words) (now new) p ⌝ }
     ensures { λ r. ⌜ r ≡ newState rule (now (table .entry)) (now (old .entry)) (now (words .entry))
         (Step·chosen (now (table .entry)) (now (old .entry)) (picksOf (now (picks .entry)))) (now (new .entry)) p ⌝ }
 {
@@ -110,13 +115,13 @@ pub fn next_state(
         }
         PlanState::Activated => {
             if holds(Condition::Abort, table, words, p)
-                | too_many_lost(rule, table, names, sets, p)
+                | too_many_lost(rule, table, n, names, sets, p)
             {
                 PlanState::Aborted
             } else if parent.is(PlanState::Suspended) | holds(Condition::Suspend, table, words, p) {
                 PlanState::Suspended
             } else if holds(Condition::Complete, table, words, p)
-                & may_complete(table, names, sets, p)
+                & may_complete(table, n, names, sets, p)
             {
                 PlanState::Completed
             } else {
@@ -125,7 +130,7 @@ pub fn next_state(
         }
         PlanState::Suspended => {
             if holds(Condition::Abort, table, words, p)
-                | too_many_lost(rule, table, names, sets, p)
+                | too_many_lost(rule, table, n, names, sets, p)
             {
                 PlanState::Aborted
             } else if parent.is(PlanState::Activated)
@@ -178,39 +183,43 @@ fn satisfiable(c: Condition, table: &[u8], words: &[u8], p: usize) -> bool
 
 // Whether too many children of plan p are lost: wait-for fails of those that are not. Lost, by their old states, are the Rejected and the
 // Aborted ones; by rule 2, if p has retry-aborted, the Rejected ones only.
-fn too_many_lost(rule: u32, table: &[u8], names: &[u64], sets: &[u64], p: usize) -> bool
-    requires { ⌜ OwnChildren (now table) (now names) (now sets) p ⌝ }
+fn too_many_lost(rule: u32, table: &[u8], n: usize, names: &[u64], sets: &[u64], p: usize) -> bool
+    requires { ⌜ OwnChildren (now table) n (now names) (now sets) p ⌝ }
     ensures { λ r. ⌜ TellsLost (now (sets .entry)) p rule (now (table .entry)) r ⌝ }
 {
-    let e = entry_at(table, p);
-    let named = names[p];
-    !e.wait_for(named - (named & lost(rule, e.retries_aborted(), sets, p)))
+    // most plans wait for none: no word is put together for them
+    if waits_for_none(n, names, p) {
+        return false;
+    }
+    let again = entry_at(table, p).retries_aborted();
+    !wait_for(table, n, names, p, not_lost(rule, again, sets, p))
 }
 
-// The lost children of plan p, as a word; `again` is its retry-aborted.
-fn lost(rule: u32, again: bool, sets: &[u64], p: usize) -> u64
+// The children of plan p that are not lost, as a word; `again` is its retry-aborted.
+fn not_lost(rule: u32, again: bool, sets: &[u64], p: usize) -> u64
     requires { ⌜ HasWords (now sets) p ⌝ }
-    ensures { λ r. ⌜ TellsWord (now (sets .entry)) p (lostStates rule again) r ⌝ }
+    ensures { λ r. ⌜ TellsWord (now (sets .entry)) p (keptStates rule again) r ⌝ }
 {
-    let rejected = in_state(sets, p, PlanState::Rejected);
+    let others = not_ended(sets, p) | in_state(sets, p, PlanState::Completed);
     // read before the test, so that no branch comes of it
     let aborted = in_state(sets, p, PlanState::Aborted);
     if (rule == 2) & again {
-        return rejected;
+        return others | aborted;
     }
-    rejected | aborted
+    others
 }
 
 // Whether the children of plan p, by their old states, let it complete: wait-for holds of the Completed ones, and, with
 // wait-for-optional, all are ended; of a body of two (5 to 8), both count as ended.
-fn may_complete(table: &[u8], names: &[u64], sets: &[u64], p: usize) -> bool
-    requires { ⌜ OwnChildren (now table) (now names) (now sets) p ⌝ }
+fn may_complete(table: &[u8], n: usize, names: &[u64], sets: &[u64], p: usize) -> bool
+    requires { ⌜ OwnChildren (now table) n (now names) (now sets) p ⌝ }
     ensures { λ r. ⌜ TellsComplete (now (sets .entry)) p (now (table .entry)) r ⌝ }
 {
-    let e = entry_at(table, p);
-    if !e.wait_for(names[p] & in_state(sets, p, PlanState::Completed)) {
+    let completed = in_state(sets, p, PlanState::Completed);
+    if !wait_for(table, n, names, p, completed) {
         return false;
     }
+    let e = entry_at(table, p);
     if !e.waits_for_optional() {
         return true;
     }
@@ -233,9 +242,15 @@ fn each_ended(sets: &[u64], p: usize) -> bool
     requires { ⌜ HasWords (now sets) p ⌝ }
     ensures { λ r. ⌜ TellsEachEnded (now (sets .entry)) p r ⌝ }
 {
-    let waiting = before_ready(sets, p);
-    let begun = in_state(sets, p, PlanState::Ready) | running(sets, p);
-    (waiting | begun) == 0
+    not_ended(sets, p) == 0
+}
+
+// The children of plan p that are not ended, as a word.
+fn not_ended(sets: &[u64], p: usize) -> u64
+    requires { ⌜ HasWords (now sets) p ⌝ }
+    ensures { λ r. ⌜ TellsWord (now (sets .entry)) p unended r ⌝ }
+{
+    before_ready(sets, p) | in_state(sets, p, PlanState::Ready) | running(sets, p)
 }
 
 // Whether the two children of plan p count as ended: each is ended or Inactive, one is ended, and, where the second is there for an

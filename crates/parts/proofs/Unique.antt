@@ -11,7 +11,7 @@ use Rattle.rules.specs.Table.{planCount}
 use Rattle.rules.specs.Answers.{badRecordWord}
 use Rattle.rules.proofs.Unique.{one-answer, OneAnswer}
 use Rattle.children.proofs.Unique.{written-once}
-use Rattle.table.proofs.Lowest.{lowest-once}
+use Rattle.lowest.proofs.Lowest.{lowest-once}
 use Rattle.parts.proofs.words_of.Reads as words-of
 use Rattle.parts.proofs.states_of.Reads as states-of
 use Rattle.parts.proofs.states_before.Reads as states-before

@@ -9,7 +9,7 @@ ghost use Rattle.rules.specs.Table.{planCount};
 ghost use Rattle.rules.specs.Record.{wordsOf, statesOf, statesBefore};
 ghost use Rattle.rules.specs.Answers.{badRecordWord};
 ghost use Rattle.rules.specs.declared.PlanState.the-variants.{Inactive};
-ghost use Rattle.table.specs.Lowest.{Lowest};
+ghost use Rattle.lowest.specs.Lowest.{Lowest};
 ghost use Rattle.children.specs.Sets.{Beyond};
 ghost use Rattle.parts.specs.OneStep.{Lies, anyBelow, Unused, wrongAt, Witnessed, Ordered};
 use lent::unused_bits;

@@ -1,7 +1,7 @@
 -- From a call that passes to what the plans' moves read: the words of a survey are those of each plan's children. Assumes nothing.
 use Prim.Native.Nat.{ℕ, zero, suc, _*_, _≤_, _<_}
 use native.Mathlib.Omega.{arith}
-use mathlib.Core.Path.{_≡_, sym, ap, _∙_}
+use mathlib.Core.Path.{_≡_, refl, sym, ap, _∙_}
 use mathlib.Core.Bool.{true, false}
 use mathlib.Core.List.{List}
 use lib.Dec.{eqb}
@@ -21,6 +21,7 @@ use Rattle.children.proofs.Kin.{same-set, few-children}
 use Rattle.demands.proofs.PlanByPlan.{same-picks}
 use Rattle.demands.proofs.TwoChildren.{two-children}
 use Rattle.moves.specs.ChildWords.{ChildWords}
+use Rattle.formulas.proofs.Formed.{plans-within, waiting}
 use Rattle.moves.specs.StepFacts.{picksOf, StepFacts, Names}
 use Rattle.lent.specs.Calls.{MayMove}
 use Rattle.lent.proofs.Calls.{rooted}
@@ -38,7 +39,13 @@ module _ (t s w ranks names : List ℕ) (moves : MayMove t s w ranks names) (n :
   shape = tree t passed
 
   pub known-names : Names t names
-  known-names = record { room = moves .prepared .names-room; collected = moves .prepared .collected }
+  known-names =
+      record {
+        waiting = waiting t (planCount t) refl (shape .small) (passed .long) (passed .formulas);
+        room = moves .prepared .names-room;
+        collected = moves .prepared .collected;
+        numbers = moves .prepared .numbers;
+      }
 
   pub narrow : Narrow t n ranks
   narrow =
@@ -92,7 +99,7 @@ module _ (t s w ranks names : List ℕ) (moves : MayMove t s w ranks names) (n :
         record {
           some = shape .some;
           small = shape .small;
-          long = passed .long;
+          long = plans-within t (passed .long);
           states-room = omega (arith, moves .passes .long);
           ranks-room = moves .prepared .ranks-room;
           sets-room = omega arith;

@@ -36,7 +36,19 @@ pub fn advance(
     ensures rest { λ _. ⌜ Beyond n (now (new .entry)) (now (new .exit)) ⌝ }
 {
     for p in 0..n {
-        new[p] = next_state(rule, table, ranks, names, sets, picks, old, words, new, p).to_byte();
+        new[p] = next_state(
+            rule,
+            table,
+            n,
+            ranks,
+            names,
+            sets,
+            picks,
+            old,
+            words,
+            new,
+            p,
+        ).to_byte();
     }
 }
 

@@ -24,7 +24,7 @@ use Rattle.rules.specs.declared.PlanState.the-variants.{Inactive}
 use Rattle.rules.proofs.Outcomes.{pass-at-last, stop-at-last}
 use Rattle.rules.proofs.Tree.{passes, tree}
 use Rattle.children.specs.Sets.{Surveyed}
-use Rattle.table.specs.Lowest.{Lowest}
+use Rattle.lowest.specs.Lowest.{Lowest}
 use Rattle.table.proofs.Reading.{found-at, found-none}
 use Rattle.moves.specs.StepFacts.{picksOf}
 use Rattle.lent.specs.Calls.{MayMove}

@@ -37,7 +37,7 @@ pub fn check(rule: u32, table: &[u8], record: &[u8]) -> Verdict
     }
     let mut ranks = [0u8; 256];
     let mut counts = [0u8; 256];
-    let mut names = [0u64; 256];
+    let mut names = [0u64; 512];
     match read_table(table, &mut ranks, &mut counts, &mut names) {
         Outcome::Refused(why) => Verdict::Refused(why),
         Outcome::Done => check_record(rule, table, &ranks, &names, record),

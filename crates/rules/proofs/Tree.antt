@@ -2,14 +2,25 @@
 use Prim.Native.Nat.{ℕ, zero, suc, _+_, _*_, _≤_, _<_}
 use native.Mathlib.Omega.{arith}
 use native.Mathlib.Decide.{ℕ-discrete}
-use mathlib.Core.Path.{_≡_, refl, sym, _∙_}
-use mathlib.Core.Bool.{Bool, true, false, not, _&&_, _||_, true≢false, false≢true}
+use mathlib.Core.Path.{_≡_, refl, sym, ap, _∙_}
+use mathlib.Core.Bool.{Bool, true, false, cond, not, _&&_, _||_, true≢false, false≢true}
 use mathlib.Core.List.{List}
 use lib.ListN.{length}
 use lib.Dec.{eqb, leb, ltb}
 use borrow.Author.Tests.{eqb-true, eqb-false, leb-false, ltb-false, not-false}
 use Rattle.rules.specs.Table.{planCount, parent, rank, isOrIsAbove}
-use Rattle.rules.specs.Answers.{unrooted, badParent, undefinedByte, unfit, badWait, headerCheck, tableCheck, tableVerdict}
+use Rattle.rules.specs.WaitFor.{firstVersion, tableSize}
+use Rattle.rules.specs.Answers.{
+  unrooted,
+  badParent,
+  undefinedByte,
+  unfit,
+  formulasCheck,
+  badWait,
+  headerCheck,
+  tableCheck,
+  tableVerdict,
+}
 use Rattle.rules.specs.declared.Refusal.{Refusal}
 use Rattle.rules.specs.declared.Outcome.{Outcome}
 use Rattle.rules.specs.declared.Outcome.the-variants.{Done, Refused}
@@ -28,10 +39,11 @@ or-right false b e = e
 -- the tests of a table that passes, one for each number
 pub record Passes (t : List ℕ) : Type 0 where
   pub header : headerCheck t ≡ Done
-  pub long : length t ≡ 8 + 8 * planCount t
+  pub long : length t ≡ tableSize t
   pub parents : (p : ℕ) → p < planCount t → badParent t p ≡ false
   pub bytes : (p : ℕ) → p < planCount t → undefinedByte t p ≡ false
   pub fits : (p : ℕ) → p < planCount t → unfit t p ≡ false
+  pub formulas : firstVersion t ≡ false → formulasCheck t ≡ Done
   pub waits : (p : ℕ) → p < planCount t → badWait t p ≡ false
 
 -- what a table answers
@@ -78,13 +90,15 @@ passes t done =
     let r₆ = then-done _ _ r₅ in
     let r₇ = then-done _ _ r₆ in
     let r₈ = then-done _ _ r₇ in
-    let r₉ = then-done _ _ r₈ in
+    let r₂₂ = then-done _ _ r₈ in
+    let r₉ = then-done _ _ r₂₂ in
     record {
       header = first-done (headerCheck t) _ done;
       long = eqb-true _ _ (not-false _ (if-done _ _ (first-done _ _ r₅)));
       parents = nowhere (badParent t) (planCount t) (at-done _ _ (first-done _ _ r₆));
       bytes = nowhere (undefinedByte t) (planCount t) (at-done _ _ (first-done _ _ r₇));
       fits = nowhere (unfit t) (planCount t) (at-done _ _ (first-done _ _ r₈));
+      formulas = λ second. sym (ap (λ (b : Bool). cond b Done (formulasCheck t)) second) ∙ first-done _ _ r₂₂;
       waits = nowhere (badWait t) (planCount t) (at-done _ _ r₉);
     }
 

@@ -1,12 +1,12 @@
--- Document 01, 'Answer numbers', as document 02 (i) and (ii) widen them: the number and place of each refusal, the test behind each, their
--- order in each call, and what each call answers and leaves. Assumes nothing.
+-- Document 01, 'Answer numbers', as document 02 (i), (ii) and (v) widen them: the number and place of each refusal, the test behind each,
+-- their order in each call, and what each call answers and leaves. Assumes nothing.
 use Prim.Native.Nat.{ℕ, zero, suc, _+_, _*_, _-_, _%_, _^_, _<_}
 use mathlib.Core.Bool.{Bool, true, false, cond, not, _&&_, _||_, Bool·beq}
 use mathlib.Core.Path.{_≡_}
 use mathlib.Core.List.{List, map}
 use lib.ListN.{length, take}
 use lib.Dec.{eqb, leb, ltb}
-use Rattle.rules.specs.Lists.{some, count, same, noPlan, least, Found, Nowhere, At}
+use Rattle.rules.specs.Lists.{some, someBelow, count, same, noPlan, least, Found, Nowhere, At}
 use Rattle.rules.specs.Bytes.{byteAt, isSet, text}
 use Rattle.rules.specs.Table.{
   version,
@@ -25,6 +25,7 @@ use Rattle.rules.specs.Table.{
   rank,
   isOrIsAbove,
 }
+use Rattle.rules.specs.WaitFor.{firstVersion, nodeCount, node, asks, operands, tableSize, isLeaf, uses, owner}
 use Rattle.rules.specs.Words.{word, pickOf, pickAllowed, otherBits, contradicts}
 use Rattle.rules.specs.Step.{step}
 use Rattle.rules.specs.HandedIn.{badState}
@@ -33,6 +34,7 @@ use Rattle.rules.specs.Record.{stepSize, stepCount, wordsOf, ExplainedFi
 use Rattle.rules.specs.declared.Body.{Body}
 use Rattle.rules.specs.declared.Body.the-variants.{Leaf}
 use Rattle.rules.specs.declared.PlanEntry.{PlanEntry}
+use Rattle.rules.specs.declared.Node.{Node}
 use Rattle.rules.specs.declared.Place.{Place}
 use Rattle.rules.specs.declared.Refusal.{Refusal}
 use Rattle.rules.specs.declared.Refusal.the-variants.{
@@ -57,6 +59,7 @@ use Rattle.rules.specs.declared.Refusal.the-variants.{
   ManySamples,
   TimesOrder,
   NoInterval,
+  Formula,
   NormalRange,
 }
 use Rattle.rules.specs.declared.Outcome.{Outcome}
@@ -92,6 +95,7 @@ place ValueRange = placed 18 0 0
 place ManySamples = placed 19 0 0
 place TimesOrder = placed 20 0 0
 place NoInterval = placed 21 0 0
+place (Formula i) = placed 22 0 i
 place NormalRange = placed 26 0 0
 
 -- one check, and if it finds nothing the next
@@ -108,7 +112,7 @@ isDone (Refused why) = false
 unfoldable pub refuseIf : Bool → Refusal → Outcome
 refuseIf b why = cond b (Refused why) Done
 
--- refused at the plan that was found
+-- refused at the plan, or at the node, that was found
 unfoldable pub refuseAt : (ℕ → Refusal) → Found → Outcome
 refuseAt why Nowhere = Done
 refuseAt why (At p) = Refused (why p)
@@ -138,8 +142,8 @@ undefinedEntry e =
 abbrev pub strayAt : PlanEntry → ℕ → Bool
 strayAt e k = (isSet k (e .manual) || isSet k (e .overridable)) && not (isSet k (e .present))
 
--- body against children (leaf exactly when there are none); manual or overridable on an absent condition; root named; leaf with m or
--- flag bits 0, 1
+-- body against children (leaf exactly when there are none); manual or overridable on an absent condition; root named; leaf with m, or
+-- byte 7 in version 2, or flag bits 0, 1
 abbrev pub unfitAny : ℕ → ℕ → PlanEntry → Bool
 unfitAny p childCount e =
     let leaf : Bool = isBody Leaf (bodyOf e) in
@@ -155,6 +159,11 @@ unfitTwo childCount e = ofTwo (bodyOf e) && (not (eqb childCount 2) || retryAbor
 -- 8, of plan p with so many children
 unfoldable pub unfitEntry : ℕ → ℕ → PlanEntry → Bool
 unfitEntry p childCount e = unfitAny p childCount e || unfitTwo childCount e
+
+-- 22, by a node's own bytes: a kind above 5, the last byte, or b where the kind does not use it, not 0
+unfoldable pub badBytes : Node → Bool
+badBytes e =
+    ltb 5 (e .kind) || not (eqb (e .last) 0) || ltb (length (operands (asks e))) 2 && not (eqb (e .b) 0)
 
 -- 12, by the plan's body and whether the pick is allowed: an unused bit, a wrong pick, or filter, setup or if-then-else satisfied but
 -- not satisfiable
@@ -187,33 +196,70 @@ module _ (t : List ℕ) where
   unfolding children unfitEntry
   unfit p = unfitEntry p (length (children t p)) (entry t p)
 
-  -- 9: m is above the number of named children
-  unfoldable pub badWait : ℕ → Bool
+  -- m is above the number of plan p's named children
+  unfoldable pub tooMany : ℕ → ℕ → Bool
   unfolding children
-  badWait p = ltb (count (λ c. named (entry t c)) (children t p)) (entry t p .wait)
+  tooMany p m = ltb (count (λ c. named (entry t c)) (children t p)) m
+
+  -- 22, place 0: the formula of a plan with children begins with a node that is not there
+  unfoldable pub strayFirst : ℕ → Bool
+  strayFirst p = not (isLeaf t p) && leb (nodeCount t) (entry t p .wait)
+
+  -- 22: node i breaks a rule by its own bytes, has an operand that is not above it or not there, or is not used exactly once
+  unfoldable pub badNode : ℕ → Bool
+  unfolding badBytes uses
+  badNode i =
+      badBytes (node t i)
+      || some (λ o. leb o i || leb (nodeCount t) o) (operands (asks (node t i)))
+      || not (eqb (uses t i) 1)
+
+  -- 22: node i is of kind 0, and its rank is not below the number of children of the plan in whose formula it stands
+  unfoldable pub badRank : ℕ → Bool
+  unfolding children owner
+  badRank i = eqb (node t i .kind) 0 && leb (length (children t (owner t i))) (node t i .a)
+
+  -- 22, of a table of version 2: a rank is read once all else holds
+  unfoldable pub formulasCheck : Outcome
+  unfolding strayFirst badNode badRank
+  formulasCheck =
+      refuseIf (ltb 256 (nodeCount t)) (Formula 0)
+      andThen refuseAt (λ p. Formula 0) (least strayFirst (planCount t))
+      andThen refuseAt Formula (least badNode (nodeCount t))
+      andThen refuseAt Formula (least badRank (nodeCount t))
+
+  -- node i stands in the formula of plan p, is of kind 5 and asks for too many
+  unfoldable pub asksTooMany : ℕ → ℕ → Bool
+  unfolding tooMany owner
+  asksTooMany p i = eqb (owner t i) p && eqb (node t i .kind) 5 && tooMany p (node t i .a)
+
+  -- 9: m, or in version 2 the number of a node of kind 5 in the plan's formula, is above the number of named children
+  unfoldable pub badWait : ℕ → Bool
+  unfolding tooMany asksTooMany someBelow
+  badWait p = cond (firstVersion t) (tooMany p (entry t p .wait)) (someBelow (asksTooMany p) (nodeCount t))
 
   -- 1 to 4
   unfoldable pub headerCheck : Outcome
   headerCheck =
       refuseIf (ltb (length t) 8) TableShort
       andThen refuseIf (wrongMark (text "APT") t) TableMark
-      andThen refuseIf (not (eqb (version t) 1)) TableVersion
+      andThen refuseIf (not (eqb (version t) 1 || eqb (version t) 2)) TableVersion
       andThen refuseIf (ltb (planCount t) 1 || ltb 256 (planCount t) || not (eqb (byteAt t 7) 0)) TableCount
 
-  -- 7 to 9
+  -- 7, 8, 22, 9
   unfoldable pub plansCheck : Outcome
-  unfolding undefinedByte unfit badWait
+  unfolding undefinedByte unfit formulasCheck badWait
   plansCheck =
       refuseAt Undefined (least undefinedByte (planCount t))
       andThen refuseAt Unfit (least unfit (planCount t))
+      andThen cond (firstVersion t) Done formulasCheck
       andThen refuseAt Wait (least badWait (planCount t))
 
-  -- 1 to 9, one number over the whole table before the next
+  -- 1 to 8, 22, 9, one number over the whole table before the next
   unfoldable pub tableCheck : Outcome
   unfolding headerCheck badParent plansCheck
   tableCheck =
       headerCheck
-      andThen refuseIf (not (eqb (length t) (8 + 8 * planCount t))) TableLength
+      andThen refuseIf (not (eqb (length t) (tableSize t))) TableLength
       andThen refuseAt Parent (least badParent (planCount t))
       andThen plansCheck
 
@@ -244,7 +290,7 @@ abbrev pub restAnswer : Found → Rest
 restAnswer (At k) = rest.Rested k
 restAnswer Nowhere = rest.Moving
 
--- A call of the step or the run by a rule: 17, then 1 to 9, then 10 to 12.
+-- A call of the step or the run by a rule: 17, then the table's, then 10 to 12.
 module _ (rule : ℕ) (t : List ℕ) where
   unfoldable pub callCheck : List ℕ → List ℕ → Outcome
   unfolding ruleCheck tableCheck lentCheck
@@ -288,7 +334,7 @@ module _ (t r : List ℕ) where
   unfolding badRecordWord
   wordsCheck i = refuseAt (Word (suc i)) (least (badRecordWord t (wordsOf t r i)) (planCount t))
 
--- The checker by a rule: 17, 1 to 9, 13, 14, then step by step 12 before 15.
+-- The checker by a rule: 17, the table's, 13, 14, then step by step 12 before 15.
 module _ (rule : ℕ) (t r : List ℕ) where
   unfoldable pub recordCheck : Outcome
   unfolding ruleCheck tableCheck formCheck

@@ -1,17 +1,18 @@
 -- Document 01, 'Small protocols to try': the lines marked P, in their order, then some that are not, then rows of our own, with those of
--- document 02 (i) to (iii) among them; one table, and one theorem that all its rows hold. A row of a step or a run goes through the whole
--- call, checks 17 and 1 to 12 included, by each rule that its first column names. Assumes nothing.
+-- document 02 (i) to (iii) and (v) among them; one table, and one theorem that all its rows hold. A row of a step or a run goes through
+-- the whole call, checks 17, 1 to 12 and 22 included, by each rule that its first column names. Assumes nothing.
 use Prim.Native.Nat.{ℕ, zero, suc, _+_, _-_, _*_, _/_, _%_, _^_}
 use Prim.Native.String.{String}
-use mathlib.Core.Bool.{Bool, true, false, _&&_}
+use mathlib.Core.Bool.{Bool, true, false, cond, _&&_}
 use mathlib.Core.Path.{_≡_, refl}
-use mathlib.Core.List.{List, [], _∷_, _++_}
-use lib.ListN.{take, drop}
+use mathlib.Core.List.{List, [], _∷_, _++_, map}
+use lib.ListN.{take, drop, replicate}
 use lib.Dec.{eqb}
-use Rattle.rules.specs.Lists.{all, same, leastFrom, highest}
-use Rattle.rules.specs.Bytes.{text}
+use Rattle.rules.specs.Lists.{all, same, leastFrom, someBelow, highest}
+use Rattle.rules.specs.Bytes.{isSet, text}
 use Rattle.rules.specs.States.{stateAt}
 use Rattle.rules.specs.Table.{childrenBefore, children, rank, isOrIsAbove}
+use Rattle.rules.specs.WaitFor.{formulaHolds, waitFor, firstNodes, askedNodes, uses, ownerWithin, owner}
 use Rattle.rules.specs.Words.{holds, satisfiable, withPattern}
 use Rattle.rules.specs.Step.{
   move,
@@ -42,6 +43,13 @@ use Rattle.rules.specs.Answers.{
   unfitEntry,
   undefinedByte,
   unfit,
+  tooMany,
+  strayFirst,
+  badBytes,
+  badNode,
+  badRank,
+  formulasCheck,
+  asksTooMany,
   badWait,
   headerCheck,
   ruleCheck,
@@ -143,6 +151,27 @@ three : ℕ → List ℕ
 unfolding tableOf leaves
 three body = tableOf 4 body 0 0x20 (leaves 0x20 3)
 
+-- document 02 (v): a table whose plans' bytes 7 name first nodes, with a number of nodes and their bytes; one node; T1 with these flags
+-- and nodes; a root whose formula begins with node 0, three leaves under it, the first two named; a root with two children of which the
+-- first has one, their formulas beginning with nodes 0 and 1
+inVersion2 : List ℕ → ℕ → List ℕ → List ℕ
+inVersion2 t k nodes = take 3 t ++ 2 ∷ drop 4 t ++ k % 256 ∷ k / 256 ∷ nodes
+
+node : ℕ → ℕ → ℕ → List ℕ
+node kind a b = kind ∷ a ∷ b ∷ 0 ∷ []
+
+T1Waits : ℕ → ℕ → List ℕ → List ℕ
+unfolding T1With inVersion2
+T1Waits flags k nodes = inVersion2 (T1With flags 0 0 32) k nodes
+
+trio : ℕ → List ℕ → List ℕ
+unfolding tableOf entryWith inVersion2
+trio k nodes = inVersion2 (tableOf 4 4 0 0x20 (entryWith 0 0 4 0 0 (entryWith 0 0 4 0 0 (entryWith 0 0 0 0 0 [])))) k nodes
+
+uneven : ℕ → List ℕ → List ℕ
+unfolding tableOf entryWith inVersion2
+uneven k nodes = inVersion2 (tableOf 4 4 0 0x20 (entryWith 0 1 0 0 1 (entryWith 1 0 4 0 0 (entryWith 0 0 0 0 0 [])))) k nodes
+
 -- two leaves, and a child of the first behind the second: its parent is no ancestor of the plan before it
 crossed : List ℕ
 unfolding tableOf entryUnder
@@ -188,6 +217,9 @@ pub data Row : Type 0 where
   rowShows : List ℕ → ℕ → ℕ → List ℕ → Row
   -- the program's line for a verdict on a table of so many plans
   rowPrints : ℕ → Verdict → String → Row
+  -- a table of a root and three leaves that passes, and whether wait-for of the root holds (1) or not (0) of each set of its children:
+  -- none, 0, 1, 0 and 1, 2, 0 and 2, 1 and 2, all
+  rowWaits : List ℕ → String → Row
   -- a pattern, satisfied and satisfiable or not, put into a word
   rowPuts : Pattern → Bool → Bool → ℕ → ℕ → Row
 
@@ -236,6 +268,9 @@ holdsIn (rowRefuses rules t from w number plan) =
     && isRefusedRun number plan (runAnswer rule t (states from) w 8) && same (runStates rule t (states from) w 8) (states from)) rules
 holdsIn (rowShows t from p part) = same (subTree t (states from) p) part
 holdsIn (rowPrints n v told) = same (line n v) (text told)
+holdsIn (rowWaits t told) =
+    isAccepted 4 (tableVerdict t)
+    && same (map (λ set. cond (waitFor t 0 (λ c. isSet (c - 1) set)) 49 48) (0 ∷ 1 ∷ 2 ∷ 3 ∷ 4 ∷ 5 ∷ 6 ∷ 7 ∷ [])) (text told)
 holdsIn (rowPuts p s t before after) = eqb (withPattern p s t before) after
 
 pub allHold : List Row → Bool
@@ -468,7 +503,7 @@ ourRefusals =
     -- 1 to 3, 6: too short, another mark, another version, a parent that is no ancestor of the plan before
     rowRefuses both (take 7 T1) 000 idle 1 0
     ∷ rowRefuses both (0 ∷ drop 1 T1) 000 idle 2 0
-    ∷ rowRefuses both (take 3 T1 ++ 2 ∷ drop 4 T1) 000 idle 3 0
+    ∷ rowRefuses both (take 3 T1 ++ 3 ∷ drop 4 T1) 000 idle 3 0
     ∷ rowRefuses both crossed 000 idle 6 3
     -- 7: a body, an unused flag, an unused condition. 8: a leaf with children, a root that is named
     ∷ rowRefuses both (T1Of 9 0 0 2 32) 000 idle 7 0
@@ -511,6 +546,82 @@ ourShows =
     ∷ rowPrints 1 (verdict.Accepted 0) "accepted 1 0\n"
     ∷ []
 
+-- document 02 (v): each kind, and kinds in one another
+ourFormulas : List Row
+unfolding trio node
+ourFormulas =
+    rowWaits (trio 1 (node 0 0 0)) "01010101"
+    ∷ rowWaits (trio 1 (node 0 1 0)) "00110011"
+    ∷ rowWaits (trio 1 (node 0 2 0)) "00001111"
+    ∷ rowWaits (trio 2 (node 1 1 0 ++ node 0 0 0)) "10101010"
+    ∷ rowWaits (trio 3 (node 2 1 2 ++ node 0 0 0 ++ node 0 1 0)) "00010001"
+    ∷ rowWaits (trio 3 (node 3 1 2 ++ node 0 0 0 ++ node 0 1 0)) "01110111"
+    ∷ rowWaits (trio 3 (node 4 1 2 ++ node 0 0 0 ++ node 0 1 0)) "01100110"
+    ∷ rowWaits (trio 1 (node 5 0 0)) "11111111"
+    ∷ rowWaits (trio 1 (node 5 1 0)) "01110111"
+    ∷ rowWaits (trio 1 (node 5 2 0)) "00010001"
+    -- (0 and 1) or 2; not (0 or 1); not not 0; (0 xor 1) xor 2; (0 xor 1) and not 2; at least one named one, and not 2
+    ∷ rowWaits (trio 5 (node 3 1 4 ++ node 2 2 3 ++ node 0 0 0 ++ node 0 1 0 ++ node 0 2 0)) "00011111"
+    ∷ rowWaits (trio 4 (node 1 1 0 ++ node 3 2 3 ++ node 0 0 0 ++ node 0 1 0)) "10001000"
+    ∷ rowWaits (trio 3 (node 1 1 0 ++ node 1 2 0 ++ node 0 0 0)) "01010101"
+    ∷ rowWaits (trio 5 (node 4 1 4 ++ node 4 2 3 ++ node 0 0 0 ++ node 0 1 0 ++ node 0 2 0)) "01101001"
+    ∷ rowWaits (trio 6 (node 2 1 4 ++ node 4 2 3 ++ node 0 0 0 ++ node 0 1 0 ++ node 1 5 0 ++ node 0 2 0)) "01100000"
+    ∷ rowWaits (trio 4 (node 2 1 2 ++ node 5 1 0 ++ node 1 3 0 ++ node 0 2 0)) "01110000"
+    ∷ []
+
+-- completion and loss by a formula: 'and' waits for both children, 'or' for one. 'not child 0' is lost while child 0 is neither Rejected
+-- nor Aborted; beside an Aborted one it completes, but under retry-aborted that child is not lost by rule 2, and so the plan is
+ourWaits : List Row
+unfolding T1Waits node idle
+ourWaits =
+    rowStep both (T1Waits 0 3 (node 2 1 2 ++ node 0 0 0 ++ node 0 1 0)) 463 idle 464
+    ∷ rowStep both (T1Waits 0 3 (node 3 1 2 ++ node 0 0 0 ++ node 0 1 0)) 463 idle 668
+    ∷ rowStep both (T1Waits 0 2 (node 1 1 0 ++ node 0 0 0)) 433 idle 788
+    ∷ rowStep both (T1Waits 0 2 (node 1 1 0 ++ node 0 0 0)) 473 idle 678
+    ∷ rowStep old (T1Waits 1 2 (node 1 1 0 ++ node 0 0 0)) 473 idle 678
+    ∷ rowStep new (T1Waits 1 2 (node 1 1 0 ++ node 0 0 0)) 473 idle 778
+    ∷ []
+
+-- what is wrong with a formula
+badFormulas : List Row
+unfolding T1 T1With T1Waits node inVersion2 uneven idle
+badFormulas =
+    -- 5: no number of nodes, half of it, a node too few, a byte too many
+    rowRefuses both (take 3 T1 ++ 2 ∷ drop 4 T1) 000 idle 5 0
+    ∷ rowRefuses both (take 3 T1 ++ 2 ∷ drop 4 T1 ++ 0 ∷ []) 000 idle 5 0
+    ∷ rowRefuses both (T1Waits 0 2 (node 5 0 0)) 000 idle 5 0
+    ∷ rowRefuses both (T1Waits 0 1 (node 5 0 0 ++ 0 ∷ [])) 000 idle 5 0
+    -- 22 at 0: more than 256 nodes, no node, a first node that is not there
+    ∷ rowRefuses both (T1Waits 0 257 (replicate 1028 0)) 000 idle 22 0
+    ∷ rowRefuses both (T1Waits 0 0 []) 000 idle 22 0
+    ∷ rowRefuses both (inVersion2 (T1With 0 0 2 32) 2 (node 1 1 0 ++ node 0 9 0)) 000 idle 22 0
+    -- at the lowest node: kind 6, the last byte, b of kinds 0, 1 and 5
+    ∷ rowRefuses both (T1Waits 0 2 (node 1 1 0 ++ node 6 0 0)) 000 idle 22 1
+    ∷ rowRefuses both (T1Waits 0 2 (node 1 1 0 ++ 0 ∷ 0 ∷ 0 ∷ 1 ∷ [])) 000 idle 22 1
+    ∷ rowRefuses both (T1Waits 0 2 (node 1 1 0 ++ node 0 0 1)) 000 idle 22 1
+    ∷ rowRefuses both (T1Waits 0 3 (node 1 1 0 ++ node 1 2 1 ++ node 0 0 0)) 000 idle 22 1
+    ∷ rowRefuses both (T1Waits 0 2 (node 1 1 0 ++ node 5 0 1)) 000 idle 22 1
+    -- an operand that is the node itself, one below it, one that is not there
+    ∷ rowRefuses both (T1Waits 0 3 (node 2 1 2 ++ node 1 1 0 ++ node 0 0 0)) 000 idle 22 1
+    ∷ rowRefuses both (T1Waits 0 4 (node 2 1 2 ++ node 0 0 0 ++ node 1 1 0 ++ node 0 0 0)) 000 idle 22 1
+    ∷ rowRefuses both (T1Waits 0 2 (node 1 1 0 ++ node 1 2 0)) 000 idle 22 1
+    -- a node that is used twice: as both operands, by two nodes; one that is not used; a broken node uses its operands
+    ∷ rowRefuses both (T1Waits 0 2 (node 2 1 1 ++ node 0 0 0)) 000 idle 22 1
+    ∷ rowRefuses both (T1Waits 0 4 (node 2 1 2 ++ node 1 3 0 ++ node 1 3 0 ++ node 0 0 0)) 000 idle 22 3
+    ∷ rowRefuses both (T1Waits 0 2 (node 0 0 0 ++ node 0 1 0)) 000 idle 22 1
+    ∷ rowRefuses both (T1Waits 0 3 (node 1 1 1 ++ node 0 0 0 ++ node 0 0 0)) 000 idle 22 0
+    -- a rank that is not there, of its own plan; not before a node that breaks another rule
+    ∷ rowRefuses both (T1Waits 0 2 (node 1 1 0 ++ node 0 2 0)) 000 idle 22 1
+    ∷ rowRefuses both (T1Waits 0 3 (node 2 1 2 ++ node 0 2 0 ++ node 0 0 1)) 000 idle 22 2
+    ∷ rowAccepts (uneven 3 (node 0 1 0 ++ node 1 2 0 ++ node 0 0 0)) 4
+    ∷ rowRefuses both (uneven 3 (node 0 1 0 ++ node 1 2 0 ++ node 0 1 0)) 000 idle 22 2
+    -- 9: more named children than there are, of its own plan; 22 before 9, 8 before 22
+    ∷ rowRefuses both (T1Waits 0 1 (node 5 3 0)) 000 idle 9 0
+    ∷ rowRefuses both (uneven 3 (node 0 1 0 ++ node 1 2 0 ++ node 5 2 0)) 000 idle 9 1
+    ∷ rowRefuses both (T1Waits 0 3 (node 2 1 2 ++ node 5 3 0 ++ node 0 2 0)) 000 idle 22 2
+    ∷ rowRefuses both (T1Waits 4 1 (node 6 0 0)) 000 idle 8 0
+    ∷ []
+
 -- document 02 (iii): what is known of a pattern, in a word's own bits, set and cleared, all others as they were
 ourWords : List Row
 ourWords =
@@ -528,13 +639,17 @@ ourWords =
     ∷ []
 
 pub table : List Row
-unfolding marked unmarked ourMoves badTurns badTurnsRefused retries ourRefusals ourShows ourWords
-table = marked ++ unmarked ++ ourMoves ++ badTurns ++ badTurnsRefused ++ retries ++ ourRefusals ++ ourShows ++ ourWords
+unfolding marked unmarked ourMoves badTurns badTurnsRefused retries ourRefusals ourShows ourFormulas ourWaits badFormulas ourWords
+table =
+    marked ++ unmarked ++ ourMoves ++ badTurns ++ badTurnsRefused ++ retries ++ ourRefusals ++ ourShows ++ ourFormulas ++ ourWaits
+    ++ badFormulas ++ ourWords
 
 pub rowsHold : allHold table ≡ true
 unfolding
-    allHold table T1Of states leaves leastFrom highest stateAt childrenBefore children rank isOrIsAbove holds satisfiable
+    allHold table T1Of states leaves leastFrom someBelow highest stateAt childrenBefore children rank isOrIsAbove formulaHolds
+    waitFor firstNodes askedNodes uses ownerWithin owner holds satisfiable
     move tooManyLost allEnded childrenComplete firstNotDone gateOpen mayActivate chosen due orders stepFirst stepBy stepUnder step badState
-    after leastRest badParent undefinedEntry unfitEntry undefinedByte unfit badWait _andThen_ refuseIf refuseAt headerCheck
-    ruleCheck tableCheck badWord callCheck tableVerdict runAnswer runStates lastDescendant subTree decimalTo
+    after leastRest badParent undefinedEntry unfitEntry undefinedByte unfit tooMany strayFirst badBytes badNode badRank formulasCheck
+    asksTooMany badWait _andThen_ refuseIf refuseAt headerCheck ruleCheck tableCheck badWord callCheck tableVerdict runAnswer runStates
+    lastDescendant subTree decimalTo
 rowsHold = refl

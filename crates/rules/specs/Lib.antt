@@ -25,6 +25,7 @@ pub mod Lists
 pub mod Bytes
 pub mod States
 pub mod Table
+pub mod WaitFor
 pub mod Words
 pub mod Step
 pub mod HandedIn

@@ -49,6 +49,11 @@ leastFrom f p (suc k) = elim (f p) [ true ↦ At p | false ↦ leastFrom f (p + 
 abbrev pub least : (ℕ → Bool) → ℕ → Found
 least f n = leastFrom f 0 n
 
+-- some number below n passes a test
+unfoldable pub someBelow : (ℕ → Bool) → ℕ → Bool
+someBelow f zero = false
+someBelow f (suc k) = someBelow f k || f k
+
 -- the highest number below n that passes a test, or 0
 unfoldable pub highest : (ℕ → Bool) → ℕ → ℕ
 highest f zero = 0

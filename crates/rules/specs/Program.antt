@@ -1,5 +1,5 @@
--- Document 01: the program `aprcheck`, from the bytes of its input to the bytes of its line; it uses rule 2, by document 02 (ii). Assumes
--- nothing.
+-- Document 01: the program `aprcheck`, from the bytes of its input to the bytes of its line; it uses rule 2, by document 02 (ii), and
+-- ends a table of version 2 behind its nodes, by (v). Assumes nothing.
 use Prim.Native.Nat.{ℕ, zero, suc, _+_, _*_, _/_, _%_, _<_, _≤_}
 use mathlib.Core.Bool.{cond, _&&_}
 use mathlib.Core.Path.{_≡_}
@@ -8,6 +8,7 @@ use lib.ListN.{length, take, drop}
 use lib.Dec.{leb, ltb}
 use Rattle.rules.specs.Bytes.{text}
 use Rattle.rules.specs.Table.{planCount}
+use Rattle.rules.specs.WaitFor.{tableSize}
 use Rattle.rules.specs.Answers.{place, isDone, headerCheck, Judged}
 use Rattle.rules.specs.declared.Refusal.the-variants.{InputLong}
 use Rattle.rules.specs.declared.Verdict.{Verdict}
@@ -34,11 +35,11 @@ line n (Refused why) =
     ++ text "\n"
 
 module _ (input : List ℕ) where
-  -- the table is the first 8 + 8n bytes, or all bytes if there are fewer or if the first 8 are missing or refused
+  -- the table is the bytes to the end of its plans, or of its nodes; all bytes if there are fewer or if the first 8 are missing or refused
   unfoldable pub tableLength : ℕ
   unfolding headerCheck
   tableLength =
-      let whole : ℕ = 8 + 8 * planCount input in
+      let whole : ℕ = tableSize input in
       cond (isDone (headerCheck input) && leb whole (length input)) whole (length input)
 
   abbrev pub tableOf : List ℕ

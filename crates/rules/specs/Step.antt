@@ -19,8 +19,8 @@ use Rattle.rules.specs.Table.{
   children,
   firstChild,
   secondChild,
-  waitFor,
 }
+use Rattle.rules.specs.WaitFor.{waitFor}
 use Rattle.rules.specs.Words.{word, pickOf, ifSatisfied, ifSatisfiable, holds, satisfiable}
 use Rattle.rules.specs.declared.Body.{Body}
 use Rattle.rules.specs.declared.Body.the-variants.{

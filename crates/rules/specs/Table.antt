@@ -1,10 +1,11 @@
--- Document 01, 'Plan table', with the bodies of document 02 (i): the header, a plan's eight bytes, the tree, and wait-for. Assumes nothing.
+-- Document 01, 'Plan table', with the bodies of document 02 (i): the header, a plan's eight bytes, and the tree.
+-- Assumes nothing.
 use Prim.Native.Nat.{ℕ, zero, suc, _+_, _*_}
 use mathlib.Core.Bool.{Bool, true, false, cond, not, _&&_, _||_}
 use mathlib.Core.List.{List, [], _∷_, _++_}
 use lib.ListN.{getD, length}
-use lib.Dec.{eqb, leb}
-use Rattle.rules.specs.Lists.{count, noPlan}
+use lib.Dec.{eqb}
+use Rattle.rules.specs.Lists.{noPlan}
 use Rattle.rules.specs.Bytes.{byteAt, u16At, isSet}
 use Rattle.rules.specs.declared.PlanEntry.{PlanEntry}
 use Rattle.rules.specs.declared.Body.{Body}
@@ -93,10 +94,6 @@ bitOf Complete = 5
 abbrev pub conditions : List Condition
 conditions = Filter ∷ Setup ∷ Suspend ∷ Reactivate ∷ Abort ∷ Complete ∷ []
 
--- byte 7: k named children are at least m
-abbrev pub enough : PlanEntry → ℕ → Bool
-enough e k = leb (e .wait) k
-
 module _ (t : List ℕ) where
   abbrev pub parent : ℕ → ℕ
   parent p = entry t p .parent
@@ -131,7 +128,3 @@ module _ (t : List ℕ) where
   unfoldable pub isOrIsAbove : ℕ → ℕ → ℕ → Bool
   isOrIsAbove a zero p = eqb a p
   isOrIsAbove a (suc k) p = eqb a p || not (eqb p 0) && isOrIsAbove a k (parent p)
-
-  -- wait-for of plan p holds of its children that pass a test: at least m named children do
-  abbrev pub waitFor : ℕ → (ℕ → Bool) → Bool
-  waitFor p f = enough (entry t p) (count (λ c. named (entry t c) && f c) (children p))

@@ -4,9 +4,11 @@ ghost use mathlib.Core.Path.{_≡_};
 ghost use mathlib.Core.Bool.{cond};
 ghost use Prim.Native.Nat.{_<_};
 ghost use lib.Count.{ones};
+ghost use lib.Dec.{leb};
 ghost use Rattle.rules.specs.Bytes.{isSet};
 ghost use Rattle.rules.specs.States.{code, stateOf, is, inSelection, inExecution, ended, wasActivated};
-ghost use Rattle.rules.specs.Table.{bodyNumber, bodyOf, isBody, ofTwo, retryAborted, waitForOptional, named, bitOf, enough};
+ghost use Rattle.rules.specs.Table.{bodyNumber, bodyOf, isBody, ofTwo, retryAborted, waitForOptional, named, bitOf};
+ghost use Rattle.rules.specs.WaitFor.{asks};
 ghost use Rattle.rules.specs.Answers.{placed, place, isRule};
 ghost use Rattle.rules.specs.Words.{pickOf, holds, satisfiable, withBits, withPattern};
 
@@ -317,15 +319,53 @@ impl PlanEntry {
         is_set(self.flags as u32, 2)
     }
 
-    // Whether wait-for holds of a set of named children, a bit for each.
+    // Whether wait-for holds, by the wait number, of a set of named children, a bit for each.
     pub fn wait_for(self, set: u64) -> bool
-        ensures { λ r. ⌜ r ≡ enough self (ones set) ⌝ }
+        ensures { λ r. ⌜ r ≡ leb (self .wait) (ones set) ⌝ }
     {
-        // m is 0 of every leaf and of most plans: nothing to count
-        if self.wait == 0 {
-            return true;
+        at_least(self.wait as u32, set)
+    }
+}
+
+// Whether at least m children are in a set, a bit for each.
+pub fn at_least(m: u32, set: u64) -> bool
+    ensures { λ r. ⌜ r ≡ leb m (ones set) ⌝ }
+{
+    m <= u64::count_ones(set)
+}
+
+// A node of a wait-for formula: its four bytes of a table of version 2.
+pub struct Node {
+    pub kind: u8,
+    pub a: u8,
+    pub b: u8,
+    pub last: u8,
+}
+
+// What a node asks of a set of children: the child of a rank, what other nodes ask, joined, or a number of named children.
+pub enum Asks {
+    Child(u8),
+    Not(u8),
+    And(u8, u8),
+    Or(u8, u8),
+    Xor(u8, u8),
+    AtLeast(u8),
+}
+
+impl Node {
+    // What the node asks. A kind above 5 is none: check 22 refuses it, and here it counts as 5.
+    pub fn asks(self) -> Asks
+        ensures { λ r. ⌜ r ≡ asks self ⌝ }
+    {
+        let kind = self.kind;
+        match kind {
+            0 => Asks::Child(self.a),
+            1 => Asks::Not(self.a),
+            2 => Asks::And(self.a, self.b),
+            3 => Asks::Or(self.a, self.b),
+            4 => Asks::Xor(self.a, self.b),
+            _ => Asks::AtLeast(self.a),
         }
-        self.wait as u32 <= u64::count_ones(set)
     }
 }
 
@@ -359,6 +399,7 @@ pub enum Refusal {
     ManySamples,
     TimesOrder,
     NoInterval,
+    Formula { node: u16 },
     NormalRange,
 }
 
@@ -404,6 +445,7 @@ impl Refusal {
             Refusal::ManySamples => Place::new(19, 0, 0),
             Refusal::TimesOrder => Place::new(20, 0, 0),
             Refusal::NoInterval => Place::new(21, 0, 0),
+            Refusal::Formula { node } => Place::new(22, 0, node),
             Refusal::NormalRange => Place::new(26, 0, 0),
         }
     }

@@ -15,7 +15,7 @@ use Rattle.rules.specs.HandedIn.{badState}
 use Rattle.rules.specs.Answers.{ruleCheck, tableCheck, lentCheck, callCheck, stepStates, runStates}
 use Rattle.rules.specs.declared.Outcome.the-variants.{Done}
 use Rattle.rules.proofs.Outcomes.{first-done, then-done, pass, pass-at, then-next}
-use Rattle.table.proofs.Lowest.{ends-here, lowest-none}
+use Rattle.lowest.proofs.Lowest.{ends-here, lowest-none}
 use Rattle.demands.specs.PassesStates.{PassesStates}
 use Rattle.step.proofs.Rests.{after-passes}
 use Rattle.lent.proofs.Calls.{table-passes, lent-passes, lengths, handed-in, words-in}

@@ -15,7 +15,7 @@ use Rattle.rules.specs.declared.Refusal.{Refusal}
 use Rattle.rules.specs.declared.Outcome.the-variants as outcome
 use Rattle.rules.specs.declared.Rest.{Rest}
 use Rattle.rules.specs.declared.Rest.the-variants.{Rested, Moving, Refused}
-use Rattle.table.proofs.Lowest.{lowest-at, lowest-none, stops-here, ends-here}
+use Rattle.lowest.proofs.Lowest.{lowest-at, lowest-none, stops-here, ends-here}
 use Rattle.demands.specs.PassesStates.{PassesStates}
 use Rattle.demands.specs.BranchesAgree.{BranchesAgree}
 use Rattle.demands.proofs.Valid.{step-passes}

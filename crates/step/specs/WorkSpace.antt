@@ -12,7 +12,7 @@ pub record StepRoom (n : ℕ) (sets picks new : List ℕ) : Type 0 where
   pub new-room : n ≤ length new
   pub empty : Empty (n * 9) sets
 
--- what the checks leave to be lent of it, for every table of this length
+-- what the checks leave to be lent of it
 pub record RoomToStep (t sets new : List ℕ) : Type 0 where
   pub sets-room : RoomFor t 9 sets
   pub new-room : RoomFor t 1 new

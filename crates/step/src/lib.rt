@@ -1,7 +1,10 @@
 // One synchronous step and the run to rest: the calls of a host, each in its own work space.
 // A step costs O(n) for n plans; nothing is allocated. Assumes nothing.
 ghost use mathlib.Core.Path.{_≡_};
+ghost use mathlib.Core.Bool.{cond};
+ghost use lib.Dec.{ltb};
 ghost use lib.ListN.{length};
+ghost use Rattle.rules.specs.Table.{planCount};
 ghost use Rattle.rules.specs.Step.{step};
 ghost use Rattle.rules.specs.Rest.{leastRest, statesAt};
 ghost use Rattle.rules.specs.Answers.{stepAnswer, stepStates, restAnswer, runAnswer, runStates};
@@ -16,6 +19,7 @@ use pass::advance;
 use pass::take_over;
 use pass::take_picks;
 use pass::unchanged;
+use reading::plan_count;
 use rules::Outcome;
 use rules::Rest;
 
@@ -25,11 +29,11 @@ pub fn step(rule: u32, table: &[u8], states: &mut [u8], words: &[u8]) -> Outcome
     ensures answer { λ r. ⌜ r ≡ stepAnswer rule (now (table .entry)) (now (states .entry)) (now (words .entry)) ⌝ }
     ensures left { λ _. ⌜ now (states .exit) ≡ stepStates rule (now (table .entry)) (now (states .entry)) (now (words .entry)) ⌝ }
 {
-    // the bytes of a table of 16 plans, and then of 64
-    if table.len() <= 136 {
+    let n = plans_told(table);
+    if n <= 16 {
         let mut ranks = [0u8; 16];
         let mut counts = [0u8; 16];
-        let mut names = [0u64; 16];
+        let mut names = [0u64; 32];
         let mut sets = [0u64; 144];
         let mut new = [0u8; 16];
         return step_within(
@@ -44,10 +48,10 @@ pub fn step(rule: u32, table: &[u8], states: &mut [u8], words: &[u8]) -> Outcome
             &mut new,
         );
     }
-    if table.len() <= 520 {
+    if n <= 64 {
         let mut ranks = [0u8; 64];
         let mut counts = [0u8; 64];
-        let mut names = [0u64; 64];
+        let mut names = [0u64; 128];
         let mut sets = [0u64; 576];
         let mut new = [0u8; 64];
         return step_within(
@@ -64,7 +68,7 @@ pub fn step(rule: u32, table: &[u8], states: &mut [u8], words: &[u8]) -> Outcome
     }
     let mut ranks = [0u8; 256];
     let mut counts = [0u8; 256];
-    let mut names = [0u64; 256];
+    let mut names = [0u64; 512];
     let mut sets = [0u64; 2304];
     let mut new = [0u8; 256];
     step_within(
@@ -87,7 +91,7 @@ pub fn rest(rule: u32, table: &[u8], states: &mut [u8], words: &[u8], budget: u1
 {
     let mut ranks = [0u8; 256];
     let mut counts = [0u8; 256];
-    let mut names = [0u64; 256];
+    let mut names = [0u64; 512];
     match check_call(
         rule,
         table,
@@ -100,6 +104,16 @@ pub fn rest(rule: u32, table: &[u8], states: &mut [u8], words: &[u8], budget: u1
         Outcome::Refused(why) => Rest::Refused(why),
         Outcome::Done => settle(rule, table, &ranks, &names, states, words, budget),
     }
+}
+
+// How many plans the header of a table tells; none where it is short.
+fn plans_told(table: &[u8]) -> usize
+    ensures { λ r. ⌜ r ≡ cond (ltb (length (now (table .entry))) 8) 0 (planCount (now (table .entry))) ⌝ }
+{
+    if table.len() < 8 {
+        return 0;
+    }
+    plan_count(table)
 }
 
 // The same, within work space that has room for every plan of the table, and whose words are 0.

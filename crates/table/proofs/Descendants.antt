@@ -11,7 +11,7 @@ use Rattle.rules.specs.Lists.{highest}
 use Rattle.rules.specs.Table.{planCount, parent, isOrIsAbove}
 use Rattle.rules.specs.SubTree.{lastDescendant}
 use Rattle.rules.proofs.Tree.{above-le}
-use Rattle.table.specs.Lowest.{Lowest}
+use Rattle.lowest.specs.Lowest.{Lowest}
 use Rattle.table.specs.Facts.{outside}
 use Rattle.table.proofs.Climb.{is-self, climb-on}
 

@@ -1,5 +1,4 @@
 -- Laws for the proofs of this crate and of those above it.
-pub mod Lowest
 pub mod Climb
 pub mod Shape
 pub mod Rules

@@ -15,7 +15,7 @@ use Rattle.rules.specs.Answers.{unrooted, badParent}
 use Rattle.rules.proofs.Tree.{rule-down}
 use Rattle.children.specs.Sets.{Rooted, Ranked}
 use Rattle.table.specs.Facts.{Shaped}
-use Rattle.table.specs.Lowest.{Lowest}
+use Rattle.lowest.specs.Lowest.{Lowest}
 
 -- where the first m plans keep the parent rule, they have earlier parents
 pub rooted-first :

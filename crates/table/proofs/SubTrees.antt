@@ -13,7 +13,7 @@ use Rattle.rules.specs.SubTree.{lastDescendant, subTree}
 use Rattle.rules.specs.declared.Refusal.{Refusal}
 use Rattle.rules.specs.declared.Outcome.the-variants.{Done, Refused}
 use Rattle.rules.proofs.Tree.{passes, tree, rule-at}
-use Rattle.table.specs.Lowest.{Lowest}
+use Rattle.lowest.specs.Lowest.{Lowest}
 use Rattle.table.specs.Facts.{outside}
 use Rattle.table.proofs.Descendants.{last-is}
 

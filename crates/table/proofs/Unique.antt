@@ -2,9 +2,10 @@
 -- it: `Post κs a z e`, of the lifetimes, the arguments, the answer and the parameters at exit, arguments and parameters in the order of
 -- the declaration. So is what the three buffers of `read_table` hold of the plans of a table that passes; past these, and of a refused
 -- table, it leaves them open (docs/DECISIONS.md). Assumes nothing.
-use Prim.Native.Nat.{ℕ}
+use Prim.Native.Nat.{ℕ, _+_, _<_}
 use mathlib.Core.Path.{_≡_, _∙_}
 use mathlib.Core.List.{List}
+use lib.ListN.{getD}
 use contract.Lifetimes.{Lfts}
 use denote.Ref.{now}
 use Rattle.rules.specs.Table.{planCount}
@@ -16,14 +17,15 @@ use Rattle.children.proofs.Unique.{Alike}
 use Rattle.table.specs.Facts.{Facts}
 use Rattle.table.proofs.has_mark.Reads as has-mark
 use Rattle.table.proofs.header_check.Reads as header-check
+use Rattle.table.proofs.table_size.Reads as table-size
 use Rattle.table.proofs.read_table.Reads as read-table
 use Rattle.table.proofs.check_table.Reads as check-table
 use Rattle.table.proofs.sub_tree.Reads as sub-tree
 
 -- the functions that are lent nothing to write
 pub checks-once :
-    OneAnswer has-mark.Post × OneAnswer header-check.Post × OneAnswer check-table.Post
-checks-once = (by-equation, by-equation, by-equation)
+    OneAnswer has-mark.Post × OneAnswer header-check.Post × OneAnswer table-size.Post × OneAnswer check-table.Post
+checks-once = (by-equation, by-equation, by-equation, by-equation)
 
 -- of the part that is handed back, its bytes
 pub sub-tree-once :
@@ -35,6 +37,7 @@ pub record SameFacts (t ranks counts names ranks′ counts′ names′ : List �
   pub ranked : Alike (planCount t) ranks ranks′
   pub counted : Alike (planCount t) counts counts′
   pub collected : Alike (planCount t) names names′
+  pub numbers : (q : ℕ) → q < planCount t → getD names (planCount t + q) 0 ≡ getD names′ (planCount t + q) 0
 
 module _ (t ranks counts names ranks′ counts′ names′ : List ℕ) where
   -- the facts of a table are one
@@ -45,6 +48,7 @@ module _ (t ranks counts names ranks′ counts′ names′ : List ℕ) where
         ranked = λ p l. one-answer (h .ranked p l) (h′ .ranked p l);
         counted = λ q l. one-answer (h .counted q l) (h′ .counted q l);
         collected = λ q l. one-answer (h .collected q l) (h′ .collected q l);
+        numbers = λ q l. one-answer (h .numbers q l) (h′ .numbers q l);
       }
 
 pub read-table-once : OneAnswer read-table.Post

@@ -1,5 +1,6 @@
-// Reads a plan table: checks 1 to 9 of documents 01 and 02, what a good table gives to those above, and the sub tree question.
-// Every function that goes over the plans costs O(n) for n plans; `climbs_to` costs O(n) over a whole table. Assumes nothing.
+// Reads a plan table: checks 1 to 9 and 22 of documents 01 and 02, what a good table gives to those above, and the sub tree question.
+// Every function that goes over the plans costs O(n) for n plans, and with its nodes a table of version 2 O(n + nodes); `climbs_to` costs
+// O(n) over a whole table. Assumes nothing.
 ghost use mathlib.Core.Path.{_≡_};
 ghost use mathlib.Core.List.{[], _∷_, map};
 ghost use Prim.Native.Nat.{_+_, _*_, _<_, _≤_};
@@ -8,16 +9,23 @@ ghost use lib.ListN.{length, take};
 ghost use Rattle.rules.specs.Lists.{some, same};
 ghost use Rattle.rules.specs.Bytes.{byteAt};
 ghost use Rattle.rules.specs.Table.{planCount, bitOf, conditions, isOrIsAbove};
+ghost use Rattle.rules.specs.WaitFor.{tableSize};
 ghost use Rattle.rules.specs.Answers.{undefinedEntry, strayAt, unfitEntry, unrooted, headerCheck, plansCheck, tableCheck, tableVerdict};
 ghost use Rattle.rules.specs.SubTree.{subTree};
 ghost use Rattle.children.specs.Sets.{Rooted};
-ghost use Rattle.table.specs.Lowest.{Lowest};
-ghost use Rattle.table.specs.Facts.{HasPlans, Shaped, breaksEntry, breaking, Known, FactsRoom, Checked, outside};
+ghost use Rattle.lowest.specs.Lowest.{Lowest};
+ghost use Rattle.formulas.specs.Asked.{Numbered};
+ghost use Rattle.table.specs.Facts.{HasPlans, waitsCheck, Shaped, breaksEntry, breaking, Known, FactsRoom, Checked, outside};
 use children::collect_named;
 use children::rank_children;
+use formulas::find_numbers;
+use nodes::check_formulas;
 use reading::entry_at;
+use reading::is_first_version;
 use reading::parent_at;
+use reading::plan_count;
 use reading::u16_at;
+use reading::u16_within;
 use rules::Body;
 use rules::Outcome;
 use rules::PlanEntry;
@@ -42,7 +50,8 @@ pub fn header_check(table: &[u8]) -> Outcome
     if !has_mark(table, b'T') {
         return Outcome::Refused(Refusal::TableMark);
     }
-    if u16_at(table, 3) != 1 {
+    let version = u16_at(table, 3);
+    if !((version == 1) | (version == 2)) {
         return Outcome::Refused(Refusal::TableVersion);
     }
     let n = u16_at(table, 5);
@@ -52,14 +61,27 @@ pub fn header_check(table: &[u8]) -> Outcome
     Outcome::Done
 }
 
-// The rules of checks 7, 8 and 9.
+// Where a table whose header passes ends: behind its plans or, in version 2, its nodes. Bytes that are missing count as 0.
+pub fn table_size(table: &[u8]) -> usize
+    requires { ⌜ headerCheck (now table) ≡ Outcome.Done ⌝ }
+    ensures { λ r. ⌜ r ≡ tableSize (now (table .entry)) ⌝ }
+{
+    let plans = 8 + 8 * plan_count(table);
+    if is_first_version(table) {
+        return plans;
+    }
+    plans + 2 + 4 * (u16_within(table, plans) as usize)
+}
+
+// The rules of checks 7 and 8, and of check 9 in version 1.
 pub enum Rule {
     Undefined,
     Unfit,
     Wait,
 }
 
-// Checks 1 to 9. Of a good table the buffers then hold the plans' ranks, numbers of children and named children.
+// Checks 1 to 9 and 22. Of a good table the buffers then hold the plans' ranks, numbers of children, named children, and, behind these,
+// how many of them each plan waits for.
 pub fn read_table(table: &[u8], ranks: &mut [u8], counts: &mut [u8], names: &mut [u64]) -> Outcome
     requires { ⌜ FactsRoom (now table) (now ranks) (now counts) (now names) ⌝ }
     ensures { λ r. ⌜ Checked (now (table .entry)) (now (ranks .exit)) (now (counts .exit)) (now (names .exit)) r ⌝ }
@@ -76,7 +98,7 @@ pub fn check_table(table: &[u8]) -> Verdict
 {
     let mut ranks = [0u8; 256];
     let mut counts = [0u8; 256];
-    let mut names = [0u64; 256];
+    let mut names = [0u64; 512];
     match read_table(table, &mut ranks, &mut counts, &mut names) {
         Outcome::Refused(why) => Verdict::Refused(why),
         Outcome::Done => Verdict::Accepted(u16_at(table, 5)),
@@ -208,7 +230,7 @@ fn lowest_breaking(rule: Rule, table: &[u8], n: usize, counts: &[u8], names: &[u
     p
 }
 
-// Checks 7 to 9.
+// Checks 7, 8, 22 and 9.
 fn plans_check(table: &[u8], n: usize, counts: &[u8], names: &[u64]) -> Outcome
     requires { ⌜ Known (now table) n (now counts) (now names) ⌝ }
     ensures { λ r. ⌜ r ≡ plansCheck (now (table .entry)) ⌝ }
@@ -223,6 +245,17 @@ fn plans_check(table: &[u8], n: usize, counts: &[u8], names: &[u64]) -> Outcome
     if unfit < n {
         return Outcome::Refused(Refusal::Unfit { plan: unfit as u16 });
     }
+    waits_check(table, n, counts, names)
+}
+
+// Check 9 of a table of version 1, checks 22 and 9 of one of version 2.
+fn waits_check(table: &[u8], n: usize, counts: &[u8], names: &[u64]) -> Outcome
+    requires { ⌜ Known (now table) n (now counts) (now names) ⌝ }
+    ensures { λ r. ⌜ r ≡ waitsCheck (now (table .entry)) ⌝ }
+{
+    if !is_first_version(table) {
+        return check_formulas(table, n, counts, names);
+    }
     let wait = lowest_breaking(Rule::Wait, table, n, counts, names);
     if wait < n {
         return Outcome::Refused(Refusal::Wait { plan: wait as u16 });
@@ -230,14 +263,30 @@ fn plans_check(table: &[u8], n: usize, counts: &[u8], names: &[u64]) -> Outcome
     Outcome::Done
 }
 
-// Checks 5 to 9 of a table whose header passes.
+// Checks 7, 8, 22 and 9, and of plans that pass the numbers of children that they wait for.
+fn check_and_number(table: &[u8], n: usize, counts: &[u8], names: &mut [u64]) -> Outcome
+    requires known { ⌜ Known (now table) n (now counts) (now names) ⌝ }
+    requires room { ⌜ n + n ≤ length (now names) ⌝ }
+    ensures is { λ r. ⌜ r ≡ plansCheck (now (table .entry)) ⌝ }
+    ensures numbered { λ r. ⌜ (r ≡ Outcome.Done → Numbered (now (table .entry)) n n (now (names .entry)) (now (names .exit))) ⌝ }
+{
+    match plans_check(table, n, counts, names) {
+        Outcome::Refused(why) => Outcome::Refused(why),
+        Outcome::Done => {
+            find_numbers(table, n, names);
+            Outcome::Done
+        }
+    }
+}
+
+// The checks from 5 on, of a table whose header passes.
 fn body_check(table: &[u8], ranks: &mut [u8], counts: &mut [u8], names: &mut [u64]) -> Outcome
     requires header { ⌜ headerCheck (now table) ≡ Outcome.Done ⌝ }
     requires room { ⌜ FactsRoom (now table) (now ranks) (now counts) (now names) ⌝ }
     ensures { λ r. ⌜ Checked (now (table .entry)) (now (ranks .exit)) (now (counts .exit)) (now (names .exit)) r ⌝ }
 {
-    let n = u16_at(table, 5) as usize;
-    if table.len() != 8 + 8 * n {
+    let n = plan_count(table);
+    if table.len() != table_size(table) {
         return Outcome::Refused(Refusal::TableLength);
     }
     let parent = lowest_bad_parent(table, n, ranks, counts);
@@ -247,7 +296,7 @@ fn body_check(table: &[u8], ranks: &mut [u8], counts: &mut [u8], names: &mut [u6
         });
     }
     collect_named(table, n, ranks, names);
-    plans_check(table, n, counts, names)
+    check_and_number(table, n, counts, names)
 }
 
 // The first plan after the sub tree of `plan`: the lowest one behind it whose parent stands before it, or n.

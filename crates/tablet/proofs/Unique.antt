@@ -30,6 +30,7 @@ use Rattle.rules.specs.declared.Refusal.the-variants.{
   ManySamples,
   TimesOrder,
   NoInterval,
+  Formula,
   NormalRange,
 }
 use Rattle.rules.proofs.Unique.{one-answer, by-equation, OneAnswer, OneAnswerLeaving}
@@ -122,6 +123,7 @@ refusal-number ValueRange = (omega arith, omega arith)
 refusal-number ManySamples = (omega arith, omega arith)
 refusal-number TimesOrder = (omega arith, omega arith)
 refusal-number NoInterval = (omega arith, omega arith)
+refusal-number (Formula i) = (omega arith, omega arith)
 refusal-number NormalRange = (omega arith, omega arith)
 
 -- so two refusals that are packed alike have the same number, step and plan,

@@ -1,11 +1,10 @@
-// What the programs share: reading standard input into a buffer, bytes of a text, and putting text together. Each function on slices says
+// What the programs share: reading standard input into a buffer, and putting text together. Each function on slices says
 // every byte that it puts. Assumes what no contract can speak of, of the system's read: that the buffer is given the bytes of standard
 // input, and that a read which fails is answered by a negative number; and of its write that what is handed over is written.
 ghost use mathlib.Core.Path.{_≡_};
 ghost use mathlib.Core.List.{[], _∷_, _++_};
 ghost use Prim.Native.Nat.{_+_, _≤_};
 ghost use lib.ListN.{length};
-ghost use Rattle.rules.specs.Bytes.{byteAt};
 ghost use Rattle.rules.specs.Program.{decimal, line};
 ghost use Rattle.text.specs.Text.{Appended, Put};
 ghost use Rattle.text.specs.Came.{came, MayCome, InRoom};
@@ -124,11 +123,4 @@ pub fn put(text: &[u8], out: &mut [u8], at: usize) -> usize
         i += 1;
     }
     at + i
-}
-
-// A byte of a text, or 0 past its end.
-pub fn byte_at(s: &[u8], i: usize) -> u8
-    ensures { λ r. ⌜ r ≡ byteAt (now (s .entry)) i ⌝ }
-{
-    if i < s.len() { s[i] } else { 0 }
 }

@@ -5,6 +5,7 @@ use borrow.Author.Needs.{needs}
 use Rattle.rules.specs.Answers.{ruleCheck}
 use Rattle.rules.specs.declared.Outcome.the-variants.{Done}
 use Rattle.rules.proofs.Outcomes.{rule-stops, rule-passes}
+use Rattle.rules.proofs.Tree.{passes}
 use Rattle.lent.proofs.Calls.{call-unruled, call-refused, call-lent}
 use Rattle.lent.proofs.check_call.Statement.{statement}
 use Rattle.lent.proofs.check_call.Tie as tie
@@ -22,9 +23,10 @@ check-lent-requires c κs =
     let read = c .before .before .before .before .before .before .before .before .before in
     let told = c .before .enum-told .given .1 in
     let facts = read .read-table .ensures .facts told in
+    let done = sym (read .read-table .ensures .is) ∙ told in
     record {
-      done = sym (read .read-table .ensures .is) ∙ told;
-      room = omega (arith, start (read .before .before .before .before) .pre .counts-room _ (facts .long) (facts .small));
+      done = done;
+      room = omega (arith, start (read .before .before .before .before) .pre .counts-room (passes _ done .header));
       counted = facts .counted;
     }
 

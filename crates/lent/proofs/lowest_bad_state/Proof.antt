@@ -6,7 +6,7 @@ use native.Mathlib.Omega.{arith}
 use borrow.Author.Count.{below-none}
 use borrow.Author.Needs.{needs}
 use denote.Ref.{now}
-use Rattle.table.proofs.Lowest.{stops-here, ends-here}
+use Rattle.lowest.proofs.Lowest.{stops-here, ends-here}
 use Rattle.lent.proofs.Marks.{Marking, MarkTurn, marks-none, bad-code, good-root, mark-turn, idle-turn}
 use Rattle.lent.proofs.lowest_bad_state.Statement.{statement}
 use Rattle.lent.proofs.lowest_bad_state.Tie as tie

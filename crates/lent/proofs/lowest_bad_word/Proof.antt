@@ -7,7 +7,7 @@ use borrow.Author.Count.{below-none, below-more}
 use borrow.Author.Needs.{needs}
 use denote.Ref.{now}
 use Rattle.rules.specs.Answers.{badWord}
-use Rattle.table.proofs.Lowest.{stops-here, ends-here}
+use Rattle.lowest.proofs.Lowest.{stops-here, ends-here}
 use Rattle.lent.proofs.Calls.{word-tested}
 use Rattle.lent.proofs.lowest_bad_word.Statement.{statement}
 use Rattle.lent.proofs.lowest_bad_word.Tie as tie

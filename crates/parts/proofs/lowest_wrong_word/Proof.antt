@@ -10,7 +10,7 @@ use borrow.Author.Tests.{not-true}
 use denote.Ref.{now}
 use Rattle.rules.specs.Answers.{badRecordWord}
 use Rattle.rules.proofs.Tree.{or-left, or-right}
-use Rattle.table.proofs.Lowest.{stops-here, ends-here}
+use Rattle.lowest.proofs.Lowest.{stops-here, ends-here}
 use Rattle.parts.specs.OneStep.{anyBelow}
 use Rattle.parts.proofs.Words.{wrong-at}
 use Rattle.parts.proofs.lowest_wrong_word.Statement.{statement}

@@ -41,7 +41,7 @@ next-state-requires : tie.Need-next-state-requires Inv-loop μ-loop
 next-state-requires c κs =
     let turn = c .before in
     let pre = start-of turn .pre in
-    move-facts _ _ _ _ _ _ _ _ (pre .0) (pre .1 .0) _ (inside turn) (omega (arith, placed turn))
+    move-facts _ _ _ _ _ _ _ _ (pre .0) (pre .1 .0) _ (pre .1 .1 .0) _ (inside turn) (omega (arith, placed turn))
     (omega (arith, pre .1 .1 .2, turn .loop-test .taken))
 
 loop-again : tie.Need-loop-again Inv-loop μ-loop

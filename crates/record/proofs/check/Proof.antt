@@ -5,7 +5,7 @@ use borrow.Author.Needs.{needs}
 use Rattle.rules.specs.Answers.{ruleCheck}
 use Rattle.rules.specs.declared.Outcome.the-variants.{Done}
 use Rattle.rules.proofs.Outcomes.{rule-stops, rule-passes}
-use Rattle.table.proofs.Reading.{prepared}
+use Rattle.table.proofs.Reading.{room-for-all, prepared}
 use Rattle.record.proofs.Form.{rule-refused, table-refused}
 use Rattle.record.proofs.check.Statement.{statement}
 use Rattle.record.proofs.check.Tie as tie
@@ -41,7 +41,7 @@ check-spec =
     (λ c. search needs)
     (λ c. search needs)
     (λ c. search needs)
-    (λ c κs. search needs)
+    (λ c κs. room-for-all _ _ _ _ (omega arith) (omega arith) (omega arith))
     (λ c. search needs)
     (λ c. search needs)
     (λ c. search needs)

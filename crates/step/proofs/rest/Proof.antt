@@ -2,6 +2,7 @@
 use mathlib.Core.Path.{sym, _∙_}
 use native.Mathlib.Omega.{arith}
 use borrow.Author.Needs.{needs}
+use Rattle.table.proofs.Reading.{room-for-all}
 use Rattle.lent.proofs.Calls.{may-move, words-in}
 use Rattle.step.proofs.Rests.{run-refused, run-done}
 use Rattle.step.proofs.rest.Statement.{statement}
@@ -34,7 +35,7 @@ rest-spec =
     (λ c. search needs)
     (λ c. search needs)
     (λ c. search needs)
-    (λ c κs. search needs)
+    (λ c κs. room-for-all _ _ _ _ (omega arith) (omega arith) (omega arith))
     (λ c. search needs)
     (λ c. search needs)
     (λ c. search needs)

@@ -2,7 +2,8 @@
 use mathlib.Core.Path.{sym, _∙_}
 use native.Mathlib.Omega.{arith}
 use borrow.Author.Needs.{needs}
-use Rattle.lent.proofs.Calls.{may-move}
+use Rattle.rules.proofs.Tree.{passes}
+use Rattle.lent.proofs.Calls.{table-passes, may-move}
 use Rattle.step.proofs.Leaves.{step-leaves, step-steps}
 use Rattle.step.proofs.step_within.Statement.{statement}
 use Rattle.step.proofs.step_within.Tie as tie
@@ -20,18 +21,17 @@ step-over-requires c κs =
     let called = checked .check-call .ensures in
     let done = told .enum-told .given .1 in
     let facts = called .facts done in
-    let long = facts .long in
-    let small = facts .small in
+    let passed = sym (called .is) ∙ done in
+    let good = passes _ (table-passes _ _ _ _ passed) .header in
     let moves =
-    may-move _ _ _ _ _ _ _ (sym (called .is) ∙ done) facts (omega (arith, facts-room .ranks-room _ long small))
-    (omega (arith, facts-room .names-room _ long small)) in
+    may-move _ _ _ _ _ _ _ passed facts (omega (arith, facts-room .ranks-room good)) (omega (arith, facts-room .names-room good)) in
     let whole = moves .passes .long in
-    let sets-room = step-room .sets-room _ long small in (
+    let sets-room = step-room .sets-room good in (
       moves,
       record {
         sets-room = omega (arith, whole, sets-room);
-        picks-room = omega (arith, whole, facts-room .counts-room _ long small);
-        new-room = omega (arith, whole, step-room .new-room _ long small);
+        picks-room = omega (arith, whole, facts-room .counts-room good);
+        new-room = omega (arith, whole, step-room .new-room good);
         empty = λ i l. step-room .empty i (omega (arith, l, whole, sets-room));
       },
     )

@@ -4,6 +4,7 @@ use native.Mathlib.Omega.{arith}
 use borrow.Author.Needs.{needs}
 use Rattle.rules.specs.declared.Verdict.the-variants.{Accepted}
 use Rattle.rules.proofs.Tree.{accepted, refused}
+use Rattle.table.proofs.Reading.{room-for-all}
 use Rattle.table.proofs.check_table.Statement.{statement}
 use Rattle.table.proofs.check_table.Tie as tie
 
@@ -25,7 +26,7 @@ check-table-spec =
     (λ c. search needs)
     (λ c. search needs)
     (λ c. search needs)
-    (λ c κs. search needs)
+    (λ c κs. room-for-all _ _ _ _ (omega arith) (omega arith) (omega arith))
     (λ c. search needs)
     (λ c. search needs)
     u16-at-requires

@@ -8,7 +8,7 @@ use borrow.Author.Tests.{lt-ltb, le-ltb}
 use denote.Ref.{now}
 use lib.Dec.{ltb}
 use Rattle.table.specs.Facts.{outside}
-use Rattle.table.proofs.Lowest.{stops-here, ends-here}
+use Rattle.lowest.proofs.Lowest.{stops-here, ends-here}
 use Rattle.table.proofs.Descendants.{behind, not-behind}
 use Rattle.table.proofs.end_of.Statement.{statement}
 use Rattle.table.proofs.end_of.Tie as tie

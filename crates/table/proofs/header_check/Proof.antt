@@ -1,6 +1,6 @@
 -- `header_check` meets its contract: each refusal by the tests that led there. Assumes nothing.
 use borrow.Author.Needs.{needs}
-use borrow.Author.Tests.{lt-ltb, le-ltb, eq-eqb, ne-eqb}
+use borrow.Author.Tests.{lt-ltb, le-ltb}
 use mathlib.Core.Path.{_≡_, sym, ap, _∙_}
 use mathlib.Core.Bool.{Bool, not, _||_}
 use mathlib.Core.List.{List}
@@ -25,6 +25,10 @@ returns-2 c =
     (pass _ _ _ (le-ltb _ _ (c .before .before .if1 .left))
     ∙ stop _ _ _ (ap not (sym (c .before .has-mark .ensures)) ∙ c .if2 .taken))
 
+-- another version than 1 and 2
+abbrev wrongVersion : ℕ → Bool
+wrongVersion version = not (eqb version 1 || eqb version 2)
+
 returns-3 : tie.Need-returns-3
 unfolding headerCheck
 returns-3 c =
@@ -32,7 +36,7 @@ returns-3 c =
     sym
     (pass _ _ _ (le-ltb _ _ (b .before .before .if1 .left))
     ∙ pass _ _ _ (ap not (sym (b .before .has-mark .ensures)) ∙ b .if2 .left)
-    ∙ stop _ _ _ (ap not (ne-eqb _ _ (λ e. c .if3 .taken (c .before .u16-at .ensures ∙ e)))))
+    ∙ stop _ _ _ (ap wrongVersion (sym (c .before .u16-at .ensures)) ∙ c .if3 .taken))
 
 -- 1 to 3 have passed: the number of plans decides
 abbrev wrong : List ℕ → ℕ → Bool
@@ -49,7 +53,7 @@ module _ (c : tie.After-u16-at2) where
       let b = a .before .before in
       pass _ _ _ (le-ltb _ _ (b .before .before .if1 .left))
       ∙ pass _ _ _ (ap not (sym (b .before .has-mark .ensures)) ∙ b .if2 .left)
-      ∙ pass _ _ _ (ap not (eq-eqb _ _ (sym (a .before .u16-at .ensures) ∙ a .if3 .left)))
+      ∙ pass _ _ _ (ap wrongVersion (sym (a .before .u16-at .ensures)) ∙ a .if3 .left)
       ∙ ap (λ (n : ℕ). refuseIf (wrong table n) TableCount) (sym (c .u16-at2 .ensures))
 
 returns-4 : tie.Need-returns-4

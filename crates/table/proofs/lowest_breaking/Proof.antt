@@ -9,7 +9,7 @@ use denote.Ref.{now}
 use lib.ListN.{getD}
 use Rattle.rules.specs.declared.PlanEntry.{PlanEntry}
 use Rattle.table.specs.Facts.{breaksEntry, breaking}
-use Rattle.table.proofs.Lowest.{stops-here, ends-here}
+use Rattle.lowest.proofs.Lowest.{stops-here, ends-here}
 use Rattle.table.proofs.Rules.{breaks-is}
 use Rattle.table.proofs.lowest_breaking.Statement.{statement}
 use Rattle.table.proofs.lowest_breaking.Tie as tie

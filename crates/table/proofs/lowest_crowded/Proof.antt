@@ -7,7 +7,7 @@ use lib.Dec.{leb}
 use borrow.Author.Count.{below-none, below-more}
 use borrow.Author.Tests.{le-leb, lt-leb}
 use Rattle.rules.specs.Bytes.{byteAt}
-use Rattle.table.proofs.Lowest.{stops-here, ends-here}
+use Rattle.lowest.proofs.Lowest.{stops-here, ends-here}
 use Rattle.table.proofs.lowest_crowded.Statement.{statement}
 use Rattle.table.proofs.lowest_crowded.Tie as tie
 

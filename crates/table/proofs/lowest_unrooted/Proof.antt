@@ -9,7 +9,7 @@ use borrow.Author.Tests.{eq-eqb, ne-eqb}
 use Rattle.rules.specs.Table.{isOrIsAbove}
 use Rattle.rules.specs.Answers.{unrooted}
 use Rattle.table.proofs.Shape.{rooted-first, unrooted-root, unrooted-next}
-use Rattle.table.proofs.Lowest.{stops-here, ends-here}
+use Rattle.lowest.proofs.Lowest.{stops-here, ends-here}
 use Rattle.table.proofs.lowest_unrooted.Statement.{statement}
 use Rattle.table.proofs.lowest_unrooted.Tie as tie
 

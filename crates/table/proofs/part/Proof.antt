@@ -4,6 +4,7 @@ use native.Mathlib.Omega.{arith}
 use borrow.Author.Needs.{needs}
 use denote.Ref.{now}
 use Rattle.rules.proofs.Tree.{passes, tree}
+use Rattle.formulas.proofs.Formed.{plans-within}
 use Rattle.table.proofs.SubTrees.{none-of-length, none-of-plan, part-of}
 use Rattle.table.proofs.part.Statement.{statement}
 use Rattle.table.proofs.part.Tie as tie
@@ -20,10 +21,11 @@ returns-2 c =
 
 end-of-requires : tie.Need-end-of-requires
 end-of-requires c κs =
-    let pre = c .before .before .before .before .pre in
+    let start = c .before .before .before .before in
+    let pre = start .pre in
     let passed = passes _ (pre .0) in
     let table-tree = tree _ passed in
-    (c .if2 .left, omega (arith, pre .1, table-tree .small), omega (arith, pre .1, passed .long))
+    (c .if2 .left, omega (arith, pre .1, table-tree .small), omega (arith, pre .1, plans-within (now (start .args .table)) (passed .long)))
 
 returns-3 : tie.Need-returns-3
 returns-3 c =

@@ -1,12 +1,12 @@
--- `plans_check` meets its contract: each search finds the lowest plan that breaks its rule. Assumes nothing.
-use mathlib.Core.Path.{_≡_, sym}
+-- `plans_check` meets its contract: each search finds the lowest plan that breaks its rule; then 22 and 9. Assumes nothing.
+use mathlib.Core.Path.{_≡_, sym, _∙_}
 use native.Mathlib.Omega.{arith}
 use borrow.Author.Needs.{needs}
 use denote.Ref.{now}
 use Rattle.rules.specs.Lists.{least, Nowhere}
 use Rattle.rules.specs.Table.{planCount}
 use Rattle.rules.specs.Answers.{undefinedByte, unfit}
-use Rattle.table.proofs.Reading.{found-at, found-none, plans-undefined, plans-unfit, plans-wait, plans-done}
+use Rattle.table.proofs.Reading.{found-at, found-none, plans-undefined, plans-unfit, plans-waits}
 use Rattle.table.proofs.plans_check.Statement.{statement}
 use Rattle.table.proofs.plans_check.Tie as tie
 
@@ -42,20 +42,7 @@ returns-2 c =
     (found-at t _ (start .pre .whole) _ _ (c .before .lowest-breaking2 .ensures) (c .if2 .taken)))
 
 returns-3 : tie.Need-returns-3
-returns-3 c =
-    let start = c .before .before .before .before .before .before .before .before .before in
-    let t = now (start .args .table) in
-    sym
-    (plans-wait t (defined (c .before .before .before .before)) (fit (c .before .before)) _
-    (found-at t _ (start .pre .whole) _ _ (c .before .lowest-breaking3 .ensures) (c .if3 .taken)))
-
-returns-4 : tie.Need-returns-4
-returns-4 c =
-    let start = c .before .before .before .before .before .before .before .before .before in
-    let t = now (start .args .table) in
-    sym
-    (plans-done t (defined (c .before .before .before .before)) (fit (c .before .before))
-    (found-none t _ (start .pre .whole) _ _ (c .before .lowest-breaking3 .ensures) (c .if3 .left)))
+returns-3 c = c .waits-check .ensures ∙ sym (plans-waits _ (defined (c .before .before .before)) (fit (c .before)))
 
 pub plans-check-spec : {M : Type 1} → statement M
 plans-check-spec =
@@ -68,6 +55,4 @@ plans-check-spec =
     (λ c. omega (arith, c .before .before .before .before .before .before .before .pre .small))
     returns-2
     (λ c κs. search needs)
-    (λ c. omega (arith, c .before .before .before .before .before .before .before .before .before .pre .small))
-    returns-3
-    returns-4)
+    returns-3)

@@ -1,0 +1,2 @@
+-- What the contracts of this crate speak of beside the definitions of crate rules.
+pub mod Asked

@@ -1,0 +1,2 @@
+-- Laws of such a search.
+pub mod Lowest
