@@ -323,6 +323,10 @@ impl PlanEntry {
     pub fn wait_for(self, set: u64) -> bool
         ensures { λ r. ⌜ r ≡ leb (self .wait) (ones set) ⌝ }
     {
+        // m is 0 of every leaf and of most plans: nothing to count
+        if self.wait == 0 {
+            return true;
+        }
         at_least(self.wait as u32, set)
     }
 }
