@@ -20,7 +20,6 @@ use Rattle.children.proofs.Sets.{set-and, set-ones}
 use Rattle.children.proofs.Bits.{digit-bits}
 use Rattle.formulas.specs.Asked.{Formed, TellsFormula}
 use Rattle.rules.specs.declared.Asks.{Asks}
-use Rattle.rules.specs.declared.Asks.the-variants.{Child, Not, And, Or, Xor, AtLeast}
 
 -- the bit of a rank, and the number of named children in a set
 pub child-bit : (t : List ℕ) (q r : ℕ) (f : ℕ → Bool) → isSet r (setOf t q f) ≡ childPasses t q f r

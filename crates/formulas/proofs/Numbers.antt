@@ -13,7 +13,7 @@ use Rattle.rules.specs.Lists.{count}
 use Rattle.rules.specs.Table.{planCount, entry, named, children}
 use Rattle.rules.specs.WaitFor.{asks, firstVersion, node, isLeaf, atLeast, askedHolds, formulaHolds, waitFor}
 use Rattle.rules.specs.declared.Asks.{Asks}
-use Rattle.rules.specs.declared.Asks.the-variants.{Child, Not, And, Or, Xor, AtLeast}
+use Rattle.rules.specs.declared.Asks.the-variants.{Child, Not, Join, AtLeast}
 use Rattle.rules.specs.declared.Node.{Node}
 use Rattle.formulas.specs.Asked.{numberIn, numberAsked, Numbered}
 
@@ -94,9 +94,7 @@ module _ (t : List ℕ) (p : ℕ) (f : ℕ → Bool) where
   unfolding formulaHolds
   one-node (Child r) is l = absurd (omega arith)
   one-node (Not a) is l = absurd (omega arith)
-  one-node (And a b) is l = absurd (omega arith)
-  one-node (Or a b) is l = absurd (omega arith)
-  one-node (Xor a b) is l = absurd (omega arith)
+  one-node (Join how a b) is l = absurd (omega arith)
   one-node (AtLeast m) is l = ap (askedHolds t p f (formulaHolds t p f 255)) (sym is)
 
   none-asked : atLeast t p f 0 ≡ true

@@ -12,15 +12,13 @@ use Rattle.rules.specs.WaitFor.{asks, operands, firstVersion, nodeCount, node, 
 use Rattle.rules.specs.Answers.{strayFirst}
 use Rattle.children.specs.Sets.{setOf}
 use Rattle.rules.specs.declared.Asks.{Asks}
-use Rattle.rules.specs.declared.Asks.the-variants.{Child, Not, And, Or, Xor, AtLeast}
+use Rattle.rules.specs.declared.Asks.the-variants.{Child, Not, Join, AtLeast}
 
 -- a number of named children, or 256 for what is no number
 abbrev pub numberIn : Asks → ℕ
 numberIn (Child r) = 256
 numberIn (Not a) = 256
-numberIn (And a b) = 256
-numberIn (Or a b) = 256
-numberIn (Xor a b) = 256
+numberIn (Join how a b) = 256
 numberIn (AtLeast m) = m
 
 -- how many named children wait-for of plan p asks for, or 256: its wait number, none of a leaf, or what its first node says

@@ -96,15 +96,10 @@ fn formula(table: &[u8], names: u64, set: u64, i: usize) -> bool
     match node_at(table, i).asks() {
         Asks::Child(rank) => has_rank(set, rank),
         Asks::Not(a) => !formula(table, names, set, wide(a)),
-        Asks::And(a, b) => {
-            formula(table, names, set, wide(a)) & formula(table, names, set, wide(b))
-        }
-        Asks::Or(a, b) => {
-            formula(table, names, set, wide(a)) | formula(table, names, set, wide(b))
-        }
-        Asks::Xor(a, b) => {
-            formula(table, names, set, wide(a)) != formula(table, names, set, wide(b))
-        }
+        Asks::Join(how, a, b) => how.join(
+            formula(table, names, set, wide(a)),
+            formula(table, names, set, wide(b)),
+        ),
         Asks::AtLeast(m) => at_least(m as u32, names & set),
     }
 }

@@ -28,7 +28,7 @@ use rules::at_least;
 
 // Checks 22 and 9 of a table of version 2, with its plans' numbers of children and named children.
 pub fn check_formulas(table: &[u8], n: usize, counts: &[u8], names: &[u64]) -> Outcome
-    requires { ⌜ ((k : ℕ) → k ≡ nodeCount (now table) → HasNodes (now table) n k) × Children (now table) n (now counts) (now names) ⌝ }
+    requires { ⌜ HasNodes (now table) n (nodeCount (now table)) × Children (now table) n (now counts) (now names) ⌝ }
     ensures { λ r. ⌜ r ≡ (formulasCheck (now (table .entry)) andThen refuseAt Wait (least (badWait (now (table .entry))) n)) ⌝ }
 {
     let k = node_count(table);

@@ -11,20 +11,27 @@ use Rattle.rules.specs.Table.{version, planCount, entry, bodyOf, isBody,
 use Rattle.rules.specs.declared.Body.the-variants.{Leaf}
 use Rattle.rules.specs.declared.Node.{Node}
 use Rattle.rules.specs.declared.Asks.{Asks}
-use Rattle.rules.specs.declared.Asks.the-variants.{Child, Not, And, Or, Xor, AtLeast}
+use Rattle.rules.specs.declared.Asks.the-variants.{Child, Not, Join, AtLeast}
+use Rattle.rules.specs.declared.Joint.{Joint}
+use Rattle.rules.specs.declared.Joint.the-variants.{And, Or, Xor}
 
 -- what a node asks, by its kind: 0 the child of rank a, 1 not, 2 and, 3 or, 4 xor, 5 at least a named children. A kind above 5 is none: it
 -- counts as the last, and check 22 refuses it
 abbrev pub asks : Node → Asks
-asks e = getD (Child (e .a) ∷ Not (e .a) ∷ And (e .a) (e .b) ∷ Or (e .a) (e .b) ∷ Xor (e .a) (e .b) ∷ []) (e .kind) (AtLeast (e .a))
+asks e =
+    getD (Child (e .a) ∷ Not (e .a) ∷ Join And (e .a) (e .b) ∷ Join Or (e .a) (e .b) ∷ Join Xor (e .a) (e .b) ∷ []) (e .kind) (AtLeast (e .a))
+
+-- two truths, joined
+abbrev pub joined : Joint → Bool → Bool → Bool
+joined And a b = a && b
+joined Or a b = a || b
+joined Xor a b = not (Bool·beq a b)
 
 -- the nodes that it asks
 abbrev pub operands : Asks → List ℕ
 operands (Child r) = []
 operands (Not a) = a ∷ []
-operands (And a b) = a ∷ b ∷ []
-operands (Or a b) = a ∷ b ∷ []
-operands (Xor a b) = a ∷ b ∷ []
+operands (Join how a b) = a ∷ b ∷ []
 operands (AtLeast m) = []
 
 module _ (t : List ℕ) where
@@ -61,9 +68,7 @@ module _ (t : List ℕ) where
   abbrev pub askedHolds : ℕ → (ℕ → Bool) → (ℕ → Bool) → Asks → Bool
   askedHolds p f holds (Child r) = childPasses p f r
   askedHolds p f holds (Not a) = not (holds a)
-  askedHolds p f holds (And a b) = holds a && holds b
-  askedHolds p f holds (Or a b) = holds a || holds b
-  askedHolds p f holds (Xor a b) = not (Bool·beq (holds a) (holds b))
+  askedHolds p f holds (Join how a b) = joined how (holds a) (holds b)
   askedHolds p f holds (AtLeast m) = atLeast p f m
 
   -- the formula that begins with node i, at most k nodes deep: operands have higher numbers, so the most nodes there can be are enough

@@ -8,7 +8,7 @@ ghost use lib.Dec.{leb};
 ghost use Rattle.rules.specs.Bytes.{isSet};
 ghost use Rattle.rules.specs.States.{code, stateOf, is, inSelection, inExecution, ended, wasActivated};
 ghost use Rattle.rules.specs.Table.{bodyNumber, bodyOf, isBody, ofTwo, retryAborted, waitForOptional, named, bitOf};
-ghost use Rattle.rules.specs.WaitFor.{asks};
+ghost use Rattle.rules.specs.WaitFor.{joined, asks};
 ghost use Rattle.rules.specs.Answers.{placed, place, isRule};
 ghost use Rattle.rules.specs.Words.{pickOf, holds, satisfiable, withBits, withPattern};
 
@@ -346,13 +346,32 @@ pub struct Node {
     pub last: u8,
 }
 
-// What a node asks of a set of children: the child of a rank, what other nodes ask, joined, or a number of named children.
+// How a node joins what two others ask.
+pub enum Joint {
+    And,
+    Or,
+    Xor,
+}
+
+impl Joint {
+    // The two truths, joined.
+    pub fn join(self, a: bool, b: bool) -> bool
+        ensures { λ r. ⌜ r ≡ joined self a b ⌝ }
+    {
+        match self {
+            Joint::And => a & b,
+            Joint::Or => a | b,
+            Joint::Xor => a != b,
+        }
+    }
+}
+
+// What a node asks of a set of children: the child of a rank, not what another node asks, what two others ask, joined, or a number of
+// named children.
 pub enum Asks {
     Child(u8),
     Not(u8),
-    And(u8, u8),
-    Or(u8, u8),
-    Xor(u8, u8),
+    Join(Joint, u8, u8),
     AtLeast(u8),
 }
 
@@ -365,9 +384,9 @@ impl Node {
         match kind {
             0 => Asks::Child(self.a),
             1 => Asks::Not(self.a),
-            2 => Asks::And(self.a, self.b),
-            3 => Asks::Or(self.a, self.b),
-            4 => Asks::Xor(self.a, self.b),
+            2 => Asks::Join(Joint::And, self.a, self.b),
+            3 => Asks::Join(Joint::Or, self.a, self.b),
+            4 => Asks::Join(Joint::Xor, self.a, self.b),
             _ => Asks::AtLeast(self.a),
         }
     }

@@ -2,7 +2,7 @@
 use Prim.Native.Nat.{ℕ, _-_, _<_}
 use native.Mathlib.Omega.{arith}
 use mathlib.Core.Path.{sym, ap, ap₂, _∙_}
-use mathlib.Core.Bool.{Bool, not, _&&_, _||_, Bool·beq}
+use mathlib.Core.Bool.{not}
 use lib.Bits.{bitAnd}
 use lib.Count.{ones}
 use lib.Dec.{leb}
@@ -10,7 +10,7 @@ use borrow.Author.Needs.{needs}
 use borrow.Fn.Kinds.{In}
 use borrow.Fn.PlainCycle.{Measures, is, falls, and}
 use Rattle.rules.specs.Bytes.{isSet}
-use Rattle.rules.specs.WaitFor.{asks, operands}
+use Rattle.rules.specs.WaitFor.{asks, joined, operands}
 use Rattle.formulas.proofs.Evaluated.{child-bit, named-ones, only-up, both-up, by-asked, may-ask, says}
 use Rattle.formulas.proofs.formula.Reads as formula
 use Rattle.formulas.proofs.formula.Kinds as formula-kinds
@@ -19,6 +19,7 @@ use Rattle.formulas.proofs.has_rank.Reads as has-rank-reads
 use Rattle.formulas.proofs.wide.Reads as wide-reads
 use Rattle.reading.proofs.node_at.Reads as node-at-reads
 use Rattle.rules.proofs.Node.asks.Reads as asks-reads
+use Rattle.rules.proofs.Joint.join.Reads as join-reads
 use Rattle.rules.proofs.at_least.Reads as at-least-reads
 use Rattle.formulas.proofs.+formula.{statement}
 use Rattle.formulas.proofs.+formula.Tie.{close}
@@ -45,6 +46,8 @@ pub +formula-spec : {M : Type 1} → statement M
   wide-reads.Learnt,
   below t,
   formula.Post,
+  join-reads.Asked,
+  join-reads.Learnt,
   at-least-reads.Asked,
   at-least-reads.Learnt,
 )
@@ -69,7 +72,7 @@ pub +formula-spec : {M : Type 1} → statement M
     let told = c .before .before in
     let asked = told .before .before in
     let start = asked .before .before .before in
-    let is = sym (asked .asks .ensures ∙ ap asks (asked .before .node-at .ensures)) ∙ told .a2 .given .1 in
+    let is = sym (asked .asks .ensures ∙ ap asks (asked .before .node-at .ensures)) ∙ told .how .given .1 in
     let up = both-up _ (start .pre .1 .0) _ (start .pre .1 .1) _ _ (ap operands is) .0 in
     may-ask _ (start .pre .1 .0) _ _ _ _ up (start .pre .0) (c .wide2 .ensures .0))
     (λ c κs. search needs)
@@ -77,43 +80,10 @@ pub +formula-spec : {M : Type 1} → statement M
     let told = c .before .before .before .before in
     let asked = told .before .before in
     let start = asked .before .before .before in
-    let is = sym (asked .asks .ensures ∙ ap asks (asked .before .node-at .ensures)) ∙ told .a2 .given .1 in
+    let is = sym (asked .asks .ensures ∙ ap asks (asked .before .node-at .ensures)) ∙ told .how .given .1 in
     let up = both-up _ (start .pre .1 .0) _ (start .pre .1 .1) _ _ (ap operands is) .1 in
     may-ask _ (start .pre .1 .0) _ _ _ _ up (start .pre .0) (c .wide3 .ensures .0))
-    (λ c. search needs)
     (λ c κs. search needs)
-    (λ c κs.
-    let told = c .before .before in
-    let asked = told .before .before in
-    let start = asked .before .before .before in
-    let is = sym (asked .asks .ensures ∙ ap asks (asked .before .node-at .ensures)) ∙ told .a3 .given .1 in
-    let up = both-up _ (start .pre .1 .0) _ (start .pre .1 .1) _ _ (ap operands is) .0 in
-    may-ask _ (start .pre .1 .0) _ _ _ _ up (start .pre .0) (c .wide4 .ensures .0))
-    (λ c κs. search needs)
-    (λ c κs.
-    let told = c .before .before .before .before in
-    let asked = told .before .before in
-    let start = asked .before .before .before in
-    let is = sym (asked .asks .ensures ∙ ap asks (asked .before .node-at .ensures)) ∙ told .a3 .given .1 in
-    let up = both-up _ (start .pre .1 .0) _ (start .pre .1 .1) _ _ (ap operands is) .1 in
-    may-ask _ (start .pre .1 .0) _ _ _ _ up (start .pre .0) (c .wide5 .ensures .0))
-    (λ c. search needs)
-    (λ c κs. search needs)
-    (λ c κs.
-    let told = c .before .before in
-    let asked = told .before .before in
-    let start = asked .before .before .before in
-    let is = sym (asked .asks .ensures ∙ ap asks (asked .before .node-at .ensures)) ∙ told .a4 .given .1 in
-    let up = both-up _ (start .pre .1 .0) _ (start .pre .1 .1) _ _ (ap operands is) .0 in
-    may-ask _ (start .pre .1 .0) _ _ _ _ up (start .pre .0) (c .wide6 .ensures .0))
-    (λ c κs. search needs)
-    (λ c κs.
-    let told = c .before .before .before .before in
-    let asked = told .before .before in
-    let start = asked .before .before .before in
-    let is = sym (asked .asks .ensures ∙ ap asks (asked .before .node-at .ensures)) ∙ told .a4 .given .1 in
-    let up = both-up _ (start .pre .1 .0) _ (start .pre .1 .1) _ _ (ap operands is) .1 in
-    may-ask _ (start .pre .1 .0) _ _ _ _ up (start .pre .0) (c .wide7 .ensures .0))
     (λ c. search needs)
     (λ c. search needs)
     (λ c κs. search needs)
@@ -133,38 +103,19 @@ pub +formula-spec : {M : Type 1} → statement M
     by-asked _ q _ f _ _ is (omega (arith, start .pre .1 .1, start .pre .1 .0 .few))
     (λ j h. ap not (says _ q _ _ f en es _ _ _ j _ (c .formula .ensures) (c .before .wide .ensures .0) (up .0) h)) k)
     (λ c q f k en es.
-    let told = c .before .before .before .before .before in
+    let told = c .before .before .before .before .before .before in
     let asked = told .before .before in
     let start = asked .before .before .before in
-    let is = sym (asked .asks .ensures ∙ ap asks (asked .before .node-at .ensures)) ∙ told .a2 .given .1 in
+    let is = sym (asked .asks .ensures ∙ ap asks (asked .before .node-at .ensures)) ∙ told .how .given .1 in
     let up = both-up _ (start .pre .1 .0) _ (start .pre .1 .1) _ _ (ap operands is) in
+    let right = c .before in
+    let left = right .before .before in
     by-asked _ q _ f _ _ is (omega (arith, start .pre .1 .1, start .pre .1 .0 .few))
     (λ j h.
-    ap₂ (λ (a b : Bool). a && b)
-    (says _ q _ _ f en es _ _ _ j _ (c .before .before .formula2 .ensures) (c .before .before .before .wide2 .ensures .0) (up .0 .0) h)
-    (says _ q _ _ f en es _ _ _ j _ (c .formula3 .ensures) (c .before .wide3 .ensures .0) (up .1 .0) h)) k)
-    (λ c q f k en es.
-    let told = c .before .before .before .before .before in
-    let asked = told .before .before in
-    let start = asked .before .before .before in
-    let is = sym (asked .asks .ensures ∙ ap asks (asked .before .node-at .ensures)) ∙ told .a3 .given .1 in
-    let up = both-up _ (start .pre .1 .0) _ (start .pre .1 .1) _ _ (ap operands is) in
-    by-asked _ q _ f _ _ is (omega (arith, start .pre .1 .1, start .pre .1 .0 .few))
-    (λ j h.
-    ap₂ (λ (a b : Bool). a || b)
-    (says _ q _ _ f en es _ _ _ j _ (c .before .before .formula4 .ensures) (c .before .before .before .wide4 .ensures .0) (up .0 .0) h)
-    (says _ q _ _ f en es _ _ _ j _ (c .formula5 .ensures) (c .before .wide5 .ensures .0) (up .1 .0) h)) k)
-    (λ c q f k en es.
-    let told = c .before .before .before .before .before in
-    let asked = told .before .before in
-    let start = asked .before .before .before in
-    let is = sym (asked .asks .ensures ∙ ap asks (asked .before .node-at .ensures)) ∙ told .a4 .given .1 in
-    let up = both-up _ (start .pre .1 .0) _ (start .pre .1 .1) _ _ (ap operands is) in
-    by-asked _ q _ f _ _ is (omega (arith, start .pre .1 .1, start .pre .1 .0 .few))
-    (λ j h.
-    ap₂ (λ (a b : Bool). not (Bool·beq a b))
-    (says _ q _ _ f en es _ _ _ j _ (c .before .before .formula6 .ensures) (c .before .before .before .wide6 .ensures .0) (up .0 .0) h)
-    (says _ q _ _ f en es _ _ _ j _ (c .formula7 .ensures) (c .before .wide7 .ensures .0) (up .1 .0) h)) k)
+    c .join .ensures
+    ∙ ap₂ (joined (told .how .given .0 .0))
+    (says _ q _ _ f en es _ _ _ j _ (left .formula2 .ensures) (left .before .wide2 .ensures .0) (up .0 .0) h)
+    (says _ q _ _ f en es _ _ _ j _ (right .formula3 .ensures) (right .before .wide3 .ensures .0) (up .1 .0) h)) k)
     (λ c q f k en es.
     let told = c .before .before in
     let asked = told .before .before in

@@ -16,11 +16,11 @@ nodes :
     (c : tie.After-node-count)
     → let args = c .before .before .before .before .args in
     HasNodes (now (args .table)) (args .n) (c .node-count .result)
-nodes c = c .before .before .before .before .pre .0 _ (c .node-count .ensures)
+nodes c = rw (c .node-count .ensures) (c .before .before .before .before .pre .0)
 
 node-count-requires : tie.Need-node-count-requires
 node-count-requires c κs =
-    let all = c .before .before .before .pre .0 _ refl in
+    let all = c .before .before .before .pre .0 in
     omega (arith, all .whole, all .room)
 
 returns : tie.Need-returns

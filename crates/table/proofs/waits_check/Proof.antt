@@ -1,6 +1,6 @@
 -- `waits_check` meets its contract: of version 2 the formulas are checked, of version 1 the wait numbers. Assumes nothing.
 use native.Mathlib.Omega.{arith}
-use mathlib.Core.Path.{_≡_, sym, ap, _∙_}
+use mathlib.Core.Path.{_≡_, refl, sym, ap, _∙_}
 use mathlib.Core.Bool.{true, false}
 use borrow.Author.Needs.{needs}
 use borrow.Author.Tests.{not-true, not-false}
@@ -24,15 +24,14 @@ check-formulas-requires : tie.Need-check-formulas-requires
 check-formulas-requires c κs =
     let start = c .before .before .before .before .before in
     let known = start .pre in (
-      λ k is.
-          record {
-            second = second-of c;
-            whole = known .whole;
-            some = known .some;
-            small = known .small;
-            nodes = is;
-            room = omega (arith, second-size (now (start .args .table)) (second-of c) (known .long), known .whole);
-          },
+      record {
+        second = second-of c;
+        whole = known .whole;
+        some = known .some;
+        small = known .small;
+        nodes = refl;
+        room = omega (arith, second-size (now (start .args .table)) (second-of c) (known .long), known .whole);
+      },
       record {
         counts-room = known .counts-room;
         names-room = known .names-room;
