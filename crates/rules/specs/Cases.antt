@@ -63,7 +63,7 @@ use Rattle.rules.specs.Answers.{
   runStates,
 }
 use Rattle.rules.specs.SubTree.{lastDescendant, subTree}
-use Rattle.rules.specs.Program.{decimalTo, line}
+use Rattle.rules.specs.Program.{decimalTo, line, tableLength}
 use Rattle.rules.specs.declared.Condition.the-variants.{Filter, Setup, Suspend, Reactivate, Abort, Complete}
 use Rattle.rules.specs.declared.Pattern.{Pattern}
 use Rattle.rules.specs.declared.Pattern.the-variants.{Of, If}
@@ -172,6 +172,13 @@ uneven : ℕ → List ℕ → List ℕ
 unfolding tableOf entryWith inVersion2
 uneven k nodes = inVersion2 (tableOf 4 4 0 0x20 (entryWith 0 1 0 0 1 (entryWith 1 0 4 0 0 (entryWith 0 0 0 0 0 [])))) k nodes
 
+-- the same, with the first nodes of the two formulas exchanged
+crossing : ℕ → List ℕ → List ℕ
+unfolding tableOf entryWith inVersion2
+crossing k nodes =
+    let t : List ℕ = tableOf 4 4 0 0x20 (entryWith 0 1 0 0 0 (entryWith 1 0 4 0 0 (entryWith 0 0 0 0 0 []))) in
+    inVersion2 (take 15 t ++ 1 ∷ drop 16 t) k nodes
+
 -- two leaves, and a child of the first behind the second: its parent is no ancestor of the plan before it
 crossed : List ℕ
 unfolding tableOf entryUnder
@@ -220,6 +227,8 @@ pub data Row : Type 0 where
   -- a table of a root and three leaves that passes, and whether wait-for of the root holds (1) or not (0) of each set of its children:
   -- none, 0, 1, 0 and 1, 2, 0 and 2, 1 and 2, all
   rowWaits : List ℕ → String → Row
+  -- how many bytes of the program's input are its table
+  rowEnds : List ℕ → ℕ → Row
   -- a pattern, satisfied and satisfiable or not, put into a word
   rowPuts : Pattern → Bool → Bool → ℕ → ℕ → Row
 
@@ -271,6 +280,7 @@ holdsIn (rowPrints n v told) = same (line n v) (text told)
 holdsIn (rowWaits t told) =
     isAccepted 4 (tableVerdict t)
     && same (map (λ set. cond (waitFor t 0 (λ c. isSet (c - 1) set)) 49 48) (0 ∷ 1 ∷ 2 ∷ 3 ∷ 4 ∷ 5 ∷ 6 ∷ 7 ∷ [])) (text told)
+holdsIn (rowEnds input k) = eqb (tableLength input) k
 holdsIn (rowPuts p s t before after) = eqb (withPattern p s t before) after
 
 pub allHold : List Row → Bool
@@ -572,7 +582,7 @@ ourFormulas =
 -- completion and loss by a formula: 'and' waits for both children, 'or' for one. 'not child 0' is lost while child 0 is neither Rejected
 -- nor Aborted; beside an Aborted one it completes, but under retry-aborted that child is not lost by rule 2, and so the plan is
 ourWaits : List Row
-unfolding T1Waits node idle
+unfolding T1Waits node inVersion2 waiting words idle
 ourWaits =
     rowStep both (T1Waits 0 3 (node 2 1 2 ++ node 0 0 0 ++ node 0 1 0)) 463 idle 464
     ∷ rowStep both (T1Waits 0 3 (node 3 1 2 ++ node 0 0 0 ++ node 0 1 0)) 463 idle 668
@@ -580,46 +590,68 @@ ourWaits =
     ∷ rowStep both (T1Waits 0 2 (node 1 1 0 ++ node 0 0 0)) 473 idle 678
     ∷ rowStep old (T1Waits 1 2 (node 1 1 0 ++ node 0 0 0)) 473 idle 678
     ∷ rowStep new (T1Waits 1 2 (node 1 1 0 ++ node 0 0 0)) 473 idle 778
+    -- a leaf waits for nothing, though its byte 7 is 0; a plan's formula asks for its own children, and begins where its own byte 7 says
+    ∷ rowStep both (T1Waits 0 3 (node 2 1 2 ++ node 0 0 0 ++ node 0 1 0)) 443 (words 0 32 0) 463
+    ∷ rowStep both (inVersion2 (waiting 0 0) 4 (node 5 0 0 ++ node 2 2 3 ++ node 0 0 0 ++ node 5 1 0)) 446 (words 0 32 0) 466
+    ∷ rowStep both (inVersion2 (waiting 0 0) 2 (node 5 0 0 ++ node 0 0 0)) 447 idle 477
     ∷ []
 
 -- what is wrong with a formula
 badFormulas : List Row
-unfolding T1 T1With T1Waits node inVersion2 uneven idle
+unfolding T1 T1With T1Waits node inVersion2 tableOf trio uneven crossing idle
 badFormulas =
     -- 5: no number of nodes, half of it, a node too few, a byte too many
     rowRefuses both (take 3 T1 ++ 2 ∷ drop 4 T1) 000 idle 5 0
     ∷ rowRefuses both (take 3 T1 ++ 2 ∷ drop 4 T1 ++ 0 ∷ []) 000 idle 5 0
     ∷ rowRefuses both (T1Waits 0 2 (node 5 0 0)) 000 idle 5 0
     ∷ rowRefuses both (T1Waits 0 1 (node 5 0 0 ++ 0 ∷ [])) 000 idle 5 0
-    -- 22 at 0: more than 256 nodes, no node, a first node that is not there
+    -- 22 at 0: more than 256 nodes (256 pass that), no node, a first node that is not there, of the root and of plan 1; a leaf needs none
     ∷ rowRefuses both (T1Waits 0 257 (replicate 1028 0)) 000 idle 22 0
+    ∷ rowRefuses both (T1Waits 0 256 (replicate 1024 0)) 000 idle 22 1
     ∷ rowRefuses both (T1Waits 0 0 []) 000 idle 22 0
     ∷ rowRefuses both (inVersion2 (T1With 0 0 2 32) 2 (node 1 1 0 ++ node 0 9 0)) 000 idle 22 0
+    ∷ rowRefuses both (uneven 1 (node 0 1 0)) 000 idle 22 0
+    ∷ rowAccepts (inVersion2 (tableOf 1 0 0 0 []) 0 []) 1
     -- at the lowest node: kind 6, the last byte, b of kinds 0, 1 and 5
     ∷ rowRefuses both (T1Waits 0 2 (node 1 1 0 ++ node 6 0 0)) 000 idle 22 1
     ∷ rowRefuses both (T1Waits 0 2 (node 1 1 0 ++ 0 ∷ 0 ∷ 0 ∷ 1 ∷ [])) 000 idle 22 1
     ∷ rowRefuses both (T1Waits 0 2 (node 1 1 0 ++ node 0 0 1)) 000 idle 22 1
     ∷ rowRefuses both (T1Waits 0 3 (node 1 1 0 ++ node 1 2 1 ++ node 0 0 0)) 000 idle 22 1
     ∷ rowRefuses both (T1Waits 0 2 (node 1 1 0 ++ node 5 0 1)) 000 idle 22 1
-    -- an operand that is the node itself, one below it, one that is not there
-    ∷ rowRefuses both (T1Waits 0 3 (node 2 1 2 ++ node 1 1 0 ++ node 0 0 0)) 000 idle 22 1
-    ∷ rowRefuses both (T1Waits 0 4 (node 2 1 2 ++ node 0 0 0 ++ node 1 1 0 ++ node 0 0 0)) 000 idle 22 1
+    -- an operand that is the node itself, one below it, one that is not there, as a and as b
+    ∷ rowRefuses both (T1Waits 0 2 (node 0 0 0 ++ node 1 1 0)) 000 idle 22 1
+    ∷ rowRefuses both (T1Waits 0 3 (node 0 0 0 ++ node 1 2 0 ++ node 1 1 0)) 000 idle 22 2
     ∷ rowRefuses both (T1Waits 0 2 (node 1 1 0 ++ node 1 2 0)) 000 idle 22 1
-    -- a node that is used twice: as both operands, by two nodes; one that is not used; a broken node uses its operands
+    ∷ rowRefuses both (T1Waits 0 2 (node 2 1 2 ++ node 0 0 0)) 000 idle 22 0
+    -- a node that is used twice: as both operands, by two nodes, by itself too, by a broken node too; one that is not used
     ∷ rowRefuses both (T1Waits 0 2 (node 2 1 1 ++ node 0 0 0)) 000 idle 22 1
     ∷ rowRefuses both (T1Waits 0 4 (node 2 1 2 ++ node 1 3 0 ++ node 1 3 0 ++ node 0 0 0)) 000 idle 22 3
+    ∷ rowRefuses both (T1Waits 0 3 (node 2 1 2 ++ node 1 1 0 ++ node 0 0 0)) 000 idle 22 1
+    ∷ rowRefuses both (T1Waits 0 3 (node 2 1 2 ++ node 0 0 0 ++ 1 ∷ 1 ∷ 0 ∷ 1 ∷ [])) 000 idle 22 1
     ∷ rowRefuses both (T1Waits 0 2 (node 0 0 0 ++ node 0 1 0)) 000 idle 22 1
-    ∷ rowRefuses both (T1Waits 0 3 (node 1 1 1 ++ node 0 0 0 ++ node 0 0 0)) 000 idle 22 0
-    -- a rank that is not there, of its own plan; not before a node that breaks another rule
+    -- a rank that is not there, of its own plan, however deep; not before a node that breaks another rule
     ∷ rowRefuses both (T1Waits 0 2 (node 1 1 0 ++ node 0 2 0)) 000 idle 22 1
     ∷ rowRefuses both (T1Waits 0 3 (node 2 1 2 ++ node 0 2 0 ++ node 0 0 1)) 000 idle 22 2
     ∷ rowAccepts (uneven 3 (node 0 1 0 ++ node 1 2 0 ++ node 0 0 0)) 4
     ∷ rowRefuses both (uneven 3 (node 0 1 0 ++ node 1 2 0 ++ node 0 1 0)) 000 idle 22 2
-    -- 9: more named children than there are, of its own plan; 22 before 9, 8 before 22
+    ∷ rowRefuses both (uneven 5 (node 0 1 0 ++ node 2 2 3 ++ node 0 0 0 ++ node 1 4 0 ++ node 0 1 0)) 000 idle 22 4
+    ∷ rowRefuses both (crossing 2 (node 0 1 0 ++ node 0 1 0)) 000 idle 22 0
+    -- 9: more named children than there are, of its own plan, at the lowest plan; 22 before 9, 8 before 22
     ∷ rowRefuses both (T1Waits 0 1 (node 5 3 0)) 000 idle 9 0
+    ∷ rowRefuses both (trio 1 (node 5 3 0)) 000 idle 9 0
+    ∷ rowRefuses both (crossing 2 (node 5 2 0 ++ node 5 1 0)) 000 idle 9 0
     ∷ rowRefuses both (uneven 3 (node 0 1 0 ++ node 1 2 0 ++ node 5 2 0)) 000 idle 9 1
     ∷ rowRefuses both (T1Waits 0 3 (node 2 1 2 ++ node 5 3 0 ++ node 0 2 0)) 000 idle 22 2
     ∷ rowRefuses both (T1Waits 4 1 (node 6 0 0)) 000 idle 8 0
+    ∷ []
+
+-- where the table of an input ends: behind its nodes; at the end of the input where nodes, or a byte of their number, are missing
+ourEnds : List Row
+unfolding T1 T1Waits node
+ourEnds =
+    rowEnds (T1Waits 0 1 (node 5 0 0) ++ 65 ∷ []) 38
+    ∷ rowEnds (T1Waits 0 2 (node 5 0 0)) 38
+    ∷ rowEnds (take 3 T1 ++ 2 ∷ drop 4 T1 ++ 7 ∷ []) 33
     ∷ []
 
 -- document 02 (iii): what is known of a pattern, in a word's own bits, set and cleared, all others as they were
@@ -639,10 +671,10 @@ ourWords =
     ∷ []
 
 pub table : List Row
-unfolding marked unmarked ourMoves badTurns badTurnsRefused retries ourRefusals ourShows ourFormulas ourWaits badFormulas ourWords
+unfolding marked unmarked ourMoves badTurns badTurnsRefused retries ourRefusals ourShows ourFormulas ourWaits badFormulas ourEnds ourWords
 table =
     marked ++ unmarked ++ ourMoves ++ badTurns ++ badTurnsRefused ++ retries ++ ourRefusals ++ ourShows ++ ourFormulas ++ ourWaits
-    ++ badFormulas ++ ourWords
+    ++ badFormulas ++ ourEnds ++ ourWords
 
 pub rowsHold : allHold table ≡ true
 unfolding
@@ -651,5 +683,5 @@ unfolding
     move tooManyLost allEnded childrenComplete firstNotDone gateOpen mayActivate chosen due orders stepFirst stepBy stepUnder step badState
     after leastRest badParent undefinedEntry unfitEntry undefinedByte unfit tooMany strayFirst badBytes badNode badRank formulasCheck
     asksTooMany badWait _andThen_ refuseIf refuseAt headerCheck ruleCheck tableCheck badWord callCheck tableVerdict runAnswer runStates
-    lastDescendant subTree decimalTo
+    lastDescendant subTree decimalTo tableLength
 rowsHold = refl

@@ -19,7 +19,9 @@ use Rattle.rules.specs.declared.Joint.the-variants.{And, Or, Xor}
 -- counts as the last, and check 22 refuses it
 abbrev pub asks : Node → Asks
 asks e =
-    getD (Child (e .a) ∷ Not (e .a) ∷ Join And (e .a) (e .b) ∷ Join Or (e .a) (e .b) ∷ Join Xor (e .a) (e .b) ∷ []) (e .kind) (AtLeast (e .a))
+    let a : ℕ = e .a in
+    let b : ℕ = e .b in
+    getD (Child a ∷ Not a ∷ Join And a b ∷ Join Or a b ∷ Join Xor a b ∷ []) (e .kind) (AtLeast a)
 
 -- two truths, joined
 abbrev pub joined : Joint → Bool → Bool → Bool
