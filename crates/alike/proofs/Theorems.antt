@@ -1,0 +1,143 @@
+-- What document 02 (vi) promises of a table that is moved into the other version: two tables that are alike, and that both pass their
+-- checks, answer alike. Every call refuses the same or leaves the same states, and every record gets the same verdicts. Assumes nothing.
+use Prim.Native.Nat.{ℕ, suc}
+use mathlib.Core.Path.{_≡_, sym, _∙_, ap}
+use mathlib.Core.List.{List}
+use Rattle.rules.specs.Step.{step, stepUnder}
+use Rattle.rules.specs.Answers.{
+  _andThen_,
+  ruleCheck,
+  tableCheck,
+  tableVerdict,
+  callCheck,
+  restAnswer,
+  stepAnswer,
+  stepStates,
+  runAnswer,
+  runStates,
+  recordCheck,
+  StepPasses,
+  Judged,
+  malformed,
+  badWords,
+  unexplained,
+  accepted,
+}
+use Rattle.rules.specs.declared.Refusal.{Refusal}
+use Rattle.rules.specs.declared.Outcome.{Outcome}
+use Rattle.rules.specs.declared.Outcome.the-variants.{Done, Refused}
+use Rattle.rules.specs.declared.Verdict.{Verdict}
+use Rattle.rules.specs.declared.Verdict.the-variants as verdict
+use Rattle.rules.specs.declared.Rest.the-variants as rest
+use Rattle.rules.proofs.Tree.{Tree, tree, passes as table-passes, accepted as table-accepted}
+use Rattle.rules.proofs.Outcomes.{then-next}
+use Rattle.alike.specs.SameCalls.{SameCalls}
+use Rattle.alike.proofs.Alike.{Alike, alike-sym}
+use Rattle.alike.proofs.Steps.{same-under, same-by-words}
+use Rattle.alike.proofs.Calls.{same-lent, same-rest, same-rest-states}
+use Rattle.alike.proofs.Records.{same-count, same-form, same-words-check, explains-first, passes}
+
+-- what a call gives by its check
+abbrev byCheck : {A : Type 0} → Outcome → A → (Refusal → A) → A
+byCheck o done refused = elim o [ Done ↦ done | Refused why ↦ refused why ]
+
+same-by-check :
+    {A : Type 0} {o o′ : Outcome} {x x′ : A} (refused : Refusal → A) → o ≡ o′ → x ≡ x′ → byCheck o x refused ≡ byCheck o′ x′ refused
+same-by-check refused e e′ = rw (e, e′)
+
+passed-tree : {t : List ℕ} → tableCheck t ≡ Done → Tree t
+passed-tree {t} done = tree t (table-passes t done)
+
+-- One step leads to the same states: by any rule number, from any states, under any words, whatever is picked; and so by the words' own
+-- picks.
+module _ {t u : List ℕ} (a : Alike t u) (done : tableCheck t ≡ Done) (rule : ℕ) (s w : List ℕ) where
+  pub same-step : (pick : ℕ → ℕ) → stepUnder rule u s w pick ≡ stepUnder rule t s w pick
+  same-step = same-under a (passed-tree done) rule s w
+
+  pub same-step-by-words : step rule u s w ≡ step rule t s w
+  same-step-by-words = same-by-words a (passed-tree done) rule s w
+
+module _ {t u : List ℕ} (a : Alike t u) (done : tableCheck t ≡ Done) (done′ : tableCheck u ≡ Done) where
+  shape : Tree t
+  shape = passed-tree done
+
+  -- both tables pass: what is checked after them decides
+  same-checked :
+      (rule : ℕ) {next next′ : Outcome} → next′ ≡ next
+      → (ruleCheck rule andThen tableCheck u andThen next′) ≡ (ruleCheck rule andThen tableCheck t andThen next)
+  same-checked rule {next} {next′} e =
+      ap (λ (o : Outcome). ruleCheck rule andThen o)
+      (then-next (tableCheck u) next′ done′ ∙ e ∙ sym (then-next (tableCheck t) next done))
+
+  -- Reading the one table answers what reading the other does.
+  pub same-table-verdict : tableVerdict u ≡ tableVerdict t
+  same-table-verdict = table-accepted u done′ ∙ ap verdict.Accepted (a .plans) ∙ sym (table-accepted t done)
+
+  -- A call is refused under both tables, by the same number at the same place, or under neither; and it leaves the same states.
+  module _ (rule : ℕ) (s w : List ℕ) where
+    pub same-call-check : callCheck rule u s w ≡ callCheck rule t s w
+    unfolding callCheck
+    same-call-check = same-checked rule (same-lent a shape s w)
+
+    -- the step
+    pub same-step-answer : stepAnswer rule u s w ≡ stepAnswer rule t s w
+    same-step-answer = same-call-check
+
+    pub same-step-states : stepStates rule u s w ≡ stepStates rule t s w
+    same-step-states = same-by-check (λ why. s) same-call-check (same-step-by-words a done rule s w)
+
+    -- the run
+    pub same-run-answer : (budget : ℕ) → runAnswer rule u s w budget ≡ runAnswer rule t s w budget
+    unfolding runAnswer
+    same-run-answer budget = same-by-check rest.Refused same-call-check (ap restAnswer (same-rest a shape rule s w budget))
+
+    pub same-run-states : (budget : ℕ) → runStates rule u s w budget ≡ runStates rule t s w budget
+    unfolding runStates
+    same-run-states budget = same-by-check (λ why. s) same-call-check (same-rest-states a shape rule s w budget)
+
+  -- A verdict that the rules permit on a record under the one table they permit under the other (and back, by `alike-sym`).
+  module _ (rule : ℕ) (r : List ℕ) where
+    pub same-record-check : recordCheck rule u r ≡ recordCheck rule t r
+    unfolding recordCheck
+    same-record-check = same-checked rule (same-form a r)
+
+    still-passes : (i : ℕ) → StepPasses rule t r i → StepPasses rule u r i
+    still-passes = passes a shape rule r
+
+    pub same-verdict : (v : Verdict) → Judged rule t r v → Judged rule u r v
+    same-verdict v (malformed e) = malformed (same-record-check ∙ e)
+    same-verdict v (badWords i d l before e) =
+        badWords i (same-record-check ∙ d) (rw (same-count a r) l) (λ j m. still-passes j (before j m)) (same-words-check a r i ∙ e)
+    same-verdict v (unexplained i p d l before e h below n) =
+        unexplained i p (same-record-check ∙ d) (rw (same-count a r) l) (λ j m. still-passes j (before j m))
+        (same-words-check a r i ∙ e) (rw (a .plans) h) (λ j m. explains-first a shape rule r i (suc j) (below j m))
+        (λ x. n (explains-first (alike-sym a) (passed-tree done′) rule r i (suc p) x))
+    same-verdict v (accepted d p) =
+        rw (← same-count a r) (accepted (same-record-check ∙ d) (λ i l. still-passes i (p i (rw (same-count a r) at l))))
+
+-- so every call is,
+pub same-calls : {t u : List ℕ} → Alike t u → tableCheck t ≡ Done → tableCheck u ≡ Done → SameCalls t u
+same-calls a done done′ =
+    record {
+      table-verdict = same-table-verdict a done done′;
+      step-answer = same-step-answer a done done′;
+      step-states = same-step-states a done done′;
+      run-answer = same-run-answer a done done′;
+      run-states = same-run-states a done done′;
+      verdicts = λ rule r v. (same-verdict a done done′ rule r v, same-verdict (alike-sym a) done′ done rule r v);
+    }
+
+-- and of three tables, one after the other, under the first and the last
+pub same-calls-then : {t u x : List ℕ} → SameCalls t u → SameCalls u x → SameCalls t x
+same-calls-then one two =
+    record {
+      table-verdict = two .table-verdict ∙ one .table-verdict;
+      step-answer = λ rule s w. two .step-answer rule s w ∙ one .step-answer rule s w;
+      step-states = λ rule s w. two .step-states rule s w ∙ one .step-states rule s w;
+      run-answer = λ rule s w budget. two .run-answer rule s w budget ∙ one .run-answer rule s w budget;
+      run-states = λ rule s w budget. two .run-states rule s w budget ∙ one .run-states rule s w budget;
+      verdicts = λ rule r v.
+          let there = one .verdicts rule r v in
+          let on = two .verdicts rule r v in
+          (λ judged. on .0 (there .0 judged), λ judged. there .1 (on .1 judged));
+    }
