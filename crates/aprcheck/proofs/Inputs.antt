@@ -10,7 +10,7 @@ use Rattle.rules.specs.Program.{tableLength, Answered, judged}
 use Rattle.rules.specs.declared.Refusal.{Refusal}
 use Rattle.rules.specs.declared.Verdict.{Verdict}
 use Rattle.rules.specs.declared.Outcome.the-variants.{Done, Refused}
-use Rattle.text.proofs.Texts.{to-end}
+use Rattle.text.proofs.Inputs.{to-end}
 
 module _ (input : List ℕ) where
   pub all-of-refused : (why : Refusal) → headerCheck input ≡ Refused why → tableLength input ≡ length input

@@ -86,7 +86,7 @@ fn accepted_line(n: u16, steps: u16, out: &mut [u8]) -> usize
     requires { ⌜ 128 ≤ length (now out) ⌝ }
     ensures { λ r. ⌜ (r ≤ 128) × (take r (now (out .exit)) ≡ line n (Verdict.Accepted steps)) ⌝ }
 {
-    let at = text::put(b"accepted ", out, 0);
+    let at = output::put(b"accepted ", out, 0);
     let at = text::put_number(n as u64, b' ', out, at);
     text::put_number(steps as u64, b'\n', out, at)
 }

@@ -7,7 +7,7 @@ ghost use mathlib.Core.Path.{_≡_};
 ghost use Prim.Native.Nat.{_+_, _-_, _%_, _^_, _<_, _≤_};
 ghost use lib.ListN.{length, take};
 ghost use Rattle.io.specs.Counts.{Counts};
-ghost use Rattle.text.specs.Text.{Put};
+ghost use Rattle.output.specs.Output.{Put};
 ghost use Rattle.aptime.specs.Words as Words;
 ghost use Rattle.aptime.specs.Lines as Lines;
 ghost use Rattle.aptime.specs.Printing as Printing;
@@ -641,9 +641,9 @@ fn put_wrong(line: usize, fault: Fault, out: &mut [u8]) -> usize
     requires { ⌜ 512 ≤ length (now out) ⌝ }
     ensures { λ r. ⌜ (r ≤ 512) × (take r (now (out .exit)) ≡ Printing.wrongText line fault) ⌝ }
 {
-    let end = text::put(b"line ", out, 0);
+    let end = output::put(b"line ", out, 0);
     let end = text::put_decimal(line as u64, out, end);
-    let end = text::put(b": ", out, end);
+    let end = output::put(b": ", out, end);
     put_fault(fault, out, end)
 }
 
@@ -653,13 +653,13 @@ fn put_fault(fault: Fault, out: &mut [u8], end: usize) -> usize
     ensures { λ r. ⌜ Put 32 (now (out .entry)) end (Printing.faultText fault) (now (out .exit)) r ⌝ }
 {
     match fault {
-        Fault::Unknown => text::put(b"not a statement\n", out, end),
-        Fault::NoNumber => text::put(b"a number was expected\n", out, end),
-        Fault::NoDots => text::put(b"'..' was expected\n", out, end),
-        Fault::NoTruth => text::put(b"'true' or 'false' was expected\n", out, end),
-        Fault::More => text::put(b"something follows the statement\n", out, end),
-        Fault::Again => text::put(b"said before\n", out, end),
-        Fault::NotAsked => text::put(b"'asked' is missing\n", out, end),
+        Fault::Unknown => output::put(b"not a statement\n", out, end),
+        Fault::NoNumber => output::put(b"a number was expected\n", out, end),
+        Fault::NoDots => output::put(b"'..' was expected\n", out, end),
+        Fault::NoTruth => output::put(b"'true' or 'false' was expected\n", out, end),
+        Fault::More => output::put(b"something follows the statement\n", out, end),
+        Fault::Again => output::put(b"said before\n", out, end),
+        Fault::NotAsked => output::put(b"'asked' is missing\n", out, end),
     }
 }
 
@@ -674,11 +674,11 @@ fn put_answer(judgement: Judgement, outcome: Outcome, numbers: &[u64; 7], out: &
             put_rest(outcome, numbers, out, end)
         }
         Judgement::Satisfiable => {
-            let end = text::put(b"not satisfied\nsatisfiable\n", out, 0);
+            let end = output::put(b"not satisfied\nsatisfiable\n", out, 0);
             put_rest(outcome, numbers, out, end)
         }
         Judgement::Neither => {
-            let end = text::put(b"not satisfied\nnot satisfiable\n", out, 0);
+            let end = output::put(b"not satisfied\nnot satisfiable\n", out, 0);
             put_rest(outcome, numbers, out, end)
         }
         Judgement::Refused(why) => text::put_refusal(why, out, 0),
@@ -690,11 +690,11 @@ fn put_satisfied(first: u64, last: u64, out: &mut [u8]) -> usize
     requires { ⌜ 72 ≤ length (now out) ⌝ }
     ensures { λ r. ⌜ Put 72 (now (out .entry)) 0 (Printing.satisfiedText first last) (now (out .exit)) r ⌝ }
 {
-    let end = text::put(b"satisfied by ", out, 0);
+    let end = output::put(b"satisfied by ", out, 0);
     let end = put_minute(first, out, end);
-    let end = text::put(b" .. ", out, end);
+    let end = output::put(b" .. ", out, end);
     let end = put_minute(last, out, end);
-    text::put(b"\nsatisfiable\n", out, end)
+    output::put(b"\nsatisfiable\n", out, end)
 }
 
 // Puts what normalising came to behind the first `end` bytes of `out`.
@@ -713,7 +713,7 @@ fn put_no_normal(why: Refusal, out: &mut [u8], end: usize) -> usize
     requires { ⌜ end + 200 ≤ length (now out) ⌝ }
     ensures { λ r. ⌜ Put 200 (now (out .entry)) end (Printing.noNormalText why) (now (out .exit)) r ⌝ }
 {
-    let end = text::put(b"no normal form: ", out, end);
+    let end = output::put(b"no normal form: ", out, end);
     text::put_refusal(why, out, end)
 }
 
@@ -722,7 +722,7 @@ fn put_normal(numbers: &[u64; 7], out: &mut [u8], end: usize) -> usize
     requires { ⌜ end + 200 ≤ length (now out) ⌝ }
     ensures { λ r. ⌜ Put 200 (now (out .entry)) end (Printing.normalText (now (numbers .entry))) (now (out .exit)) r ⌝ }
 {
-    let end = text::put(b"normal form:\n", out, end);
+    let end = output::put(b"normal form:\n", out, end);
     let end = put_shifts(numbers, out, end);
     put_durations(numbers, out, end)
 }
@@ -742,9 +742,9 @@ fn put_durations(numbers: &[u64; 7], out: &mut [u8], end: usize) -> usize
     ensures { λ r. ⌜ Put 80 (now (out .entry)) end (Printing.durationsText (now (numbers .entry))) (now (out .exit)) r ⌝ }
 {
     let end = put_bounds(b"lasts ", numbers[4], numbers[5], out, end);
-    let end = text::put(b"from ", out, end);
+    let end = output::put(b"from ", out, end);
     let end = put_bound(numbers[6], out, end);
-    text::put(b"\n", out, end)
+    output::put(b"\n", out, end)
 }
 
 // Puts a statement of two bounds there.
@@ -753,11 +753,11 @@ fn put_bounds(name: &[u8], a: u64, b: u64, out: &mut [u8], end: usize) -> usize
     ensures { λ r.
         ⌜ Put (length (now (name .entry)) + 47) (now (out .entry)) end (Printing.boundsText (now (name .entry)) a b) (now (out .exit)) r ⌝ }
 {
-    let end = text::put(name, out, end);
+    let end = output::put(name, out, end);
     let end = put_bound(a, out, end);
-    let end = text::put(b" .. ", out, end);
+    let end = output::put(b" .. ", out, end);
     let end = put_bound(b, out, end);
-    text::put(b"\n", out, end)
+    output::put(b"\n", out, end)
 }
 
 // Puts a number in two's complement there, or `_` for an open bound.
@@ -766,7 +766,7 @@ fn put_bound(x: u64, out: &mut [u8], end: usize) -> usize
     ensures { λ r. ⌜ Put 21 (now (out .entry)) end (Printing.boundText x) (now (out .exit)) r ⌝ }
 {
     if x == OPEN {
-        return text::put(b"_", out, end);
+        return output::put(b"_", out, end);
     }
     if x < OPEN {
         return put_signed(false, x, out, end);
@@ -791,7 +791,7 @@ fn put_signed(negative: bool, size: u64, out: &mut [u8], end: usize) -> usize
     ensures { λ r. ⌜ Put 21 (now (out .entry)) end (Printing.signed negative size) (now (out .exit)) r ⌝ }
 {
     if negative {
-        let end = text::put(b"-", out, end);
+        let end = output::put(b"-", out, end);
         return text::put_decimal(size, out, end);
     }
     text::put_decimal(size, out, end)

@@ -6,11 +6,12 @@ ghost use mathlib.Core.List.{[], _∷_, _++_};
 ghost use Prim.Native.Nat.{_+_, _≤_};
 ghost use lib.ListN.{length};
 ghost use Rattle.rules.specs.Program.{decimal, line};
-ghost use Rattle.text.specs.Text.{Appended, Put};
+ghost use Rattle.output.specs.Output.{Put};
 ghost use Rattle.text.specs.Came.{came, MayCome, InRoom};
 use libc::STDERR_FILENO;
 use libc::STDIN_FILENO;
 use libc::STDOUT_FILENO;
+use output::put;
 use rules::Refusal;
 use rules::Verdict;
 
@@ -110,17 +111,4 @@ pub fn put_decimal(x: u64, out: &mut [u8], at: usize) -> usize
     let mut digits = [0u8; 20];
     let k = io::decimal(x, &mut digits);
     put(&digits[..k], out, at)
-}
-
-// Puts a text there.
-pub fn put(text: &[u8], out: &mut [u8], at: usize) -> usize
-    requires { ⌜ at + length (now text) ≤ length (now out) ⌝ }
-    ensures { λ r. ⌜ Appended (now (out .entry)) at (now (text .entry)) (now (out .exit)) r ⌝ }
-{
-    let mut i = 0;
-    while i < text.len() {
-        out[at + i] = text[i];
-        i += 1;
-    }
-    at + i
 }

@@ -3,7 +3,7 @@ use native.Mathlib.Omega.{arith}
 use mathlib.Core.Path.{_∙_}
 use mathlib.Core.List.{append-assoc}
 use borrow.Author.Needs.{needs}
-use Rattle.text.proofs.Texts.{and-then}
+use Rattle.output.proofs.Pieces.{and-then}
 use Rattle.aprcheck.proofs.accepted_line.Statement.{statement}
 use Rattle.aprcheck.proofs.accepted_line.Tie as tie
 

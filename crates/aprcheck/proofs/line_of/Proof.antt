@@ -3,7 +3,7 @@ use mathlib.Core.Path.{sym, ap, _∙_}
 use native.Mathlib.Omega.{arith}
 use borrow.Author.Needs.{needs}
 use Rattle.rules.specs.Program.{line}
-use Rattle.text.proofs.Texts.{from-start}
+use Rattle.output.proofs.Pieces.{from-start}
 use Rattle.aprcheck.proofs.line_of.Statement.{statement}
 use Rattle.aprcheck.proofs.line_of.Tie as tie
 

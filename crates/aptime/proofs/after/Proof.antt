@@ -4,7 +4,7 @@ use mathlib.Core.Path.{ap, _∙_}
 use mathlib.Core.List.{List}
 use denote.Ref.{now}
 use lib.ListN.{drop}
-use Rattle.text.proofs.Texts.{to-end}
+use Rattle.text.proofs.Inputs.{to-end}
 use Rattle.aptime.specs.Words.{run, after}
 use Rattle.aptime.specs.declared.Stretch.the-variants.{Word}
 use borrow.Author.Needs.{needs}

@@ -2,7 +2,7 @@
 use mathlib.Core.Path.{sym, ap, _∙_}
 use denote.Ref.{now}
 use borrow.Author.Tests.{eq-eqb, ne-eqb}
-use Rattle.text.proofs.Texts.{to-end}
+use Rattle.text.proofs.Inputs.{to-end}
 use Rattle.aptime.specs.Words.{number, negative, unsigned}
 use Rattle.aptime.proofs.Scanning.{some-byte}
 use borrow.Author.Needs.{needs}

@@ -1,6 +1,6 @@
 -- `put_answer` meets its contract: by what was judged. Assumes nothing.
 use mathlib.Core.Path.{_∙_}
-use Rattle.text.proofs.Texts.{and-then, from-start}
+use Rattle.output.proofs.Pieces.{and-then, from-start}
 use borrow.Author.Needs.{needs}
 use native.Mathlib.Omega.{arith}
 use Rattle.aptime.proofs.put_answer.Statement.{statement}

@@ -2,7 +2,7 @@
 use Prim.Native.Nat.{_+_, _-_, _^_}
 use mathlib.Core.Path.{_≡_}
 use borrow.Author.Tests.{eq-eqb, ne-eqb, lt-ltb, le-ltb}
-use Rattle.text.proofs.Texts.{as-one}
+use Rattle.output.proofs.Pieces.{as-one}
 use borrow.Author.Needs.{needs}
 use native.Mathlib.Omega.{arith}
 use Rattle.aptime.proofs.put_bound.Statement.{statement}

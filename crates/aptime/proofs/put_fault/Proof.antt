@@ -1,5 +1,5 @@
 -- `put_fault` meets its contract: a text for each fault. Assumes nothing.
-use Rattle.text.proofs.Texts.{as-one}
+use Rattle.output.proofs.Pieces.{as-one}
 use borrow.Author.Needs.{needs}
 use native.Mathlib.Omega.{arith}
 use Rattle.aptime.proofs.put_fault.Statement.{statement}

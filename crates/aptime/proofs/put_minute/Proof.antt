@@ -1,6 +1,6 @@
 -- `put_minute` meets its contract: before minute 0, or from it on. Assumes nothing.
 use borrow.Author.Tests.{lt-ltb, le-ltb}
-use Rattle.text.proofs.Texts.{as-one}
+use Rattle.output.proofs.Pieces.{as-one}
 use borrow.Author.Needs.{needs}
 use Rattle.aptime.proofs.put_minute.Statement.{statement}
 use Rattle.aptime.proofs.put_minute.Tie as tie

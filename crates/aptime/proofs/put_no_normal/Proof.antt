@@ -1,5 +1,5 @@
 -- `put_no_normal` meets its contract: piece by piece. Assumes nothing.
-use Rattle.text.proofs.Texts.{and-then}
+use Rattle.output.proofs.Pieces.{and-then}
 use borrow.Author.Needs.{needs}
 use native.Mathlib.Omega.{arith}
 use Rattle.aptime.proofs.put_no_normal.Statement.{statement}

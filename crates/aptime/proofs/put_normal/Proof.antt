@@ -1,6 +1,6 @@
 -- `put_normal` meets its contract: piece by piece. Assumes nothing.
 use mathlib.Core.List.{append-assoc}
-use Rattle.text.proofs.Texts.{and-then, as-one}
+use Rattle.output.proofs.Pieces.{and-then, as-one}
 use borrow.Author.Needs.{needs}
 use native.Mathlib.Omega.{arith}
 use Rattle.aptime.proofs.put_normal.Statement.{statement}

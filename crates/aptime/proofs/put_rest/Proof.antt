@@ -1,5 +1,5 @@
 -- `put_rest` meets its contract: by what normalising came to. Assumes nothing.
-use Rattle.text.proofs.Texts.{as-one}
+use Rattle.output.proofs.Pieces.{as-one}
 use borrow.Author.Needs.{needs}
 use Rattle.aptime.proofs.put_rest.Statement.{statement}
 use Rattle.aptime.proofs.put_rest.Tie as tie

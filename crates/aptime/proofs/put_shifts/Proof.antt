@@ -1,5 +1,5 @@
 -- `put_shifts` meets its contract: piece by piece. Assumes nothing.
-use Rattle.text.proofs.Texts.{and-then}
+use Rattle.output.proofs.Pieces.{and-then}
 use Rattle.aptime.specs.Printing.{shiftsText}
 use borrow.Author.Needs.{needs}
 use native.Mathlib.Omega.{arith}

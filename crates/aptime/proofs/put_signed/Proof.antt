@@ -1,5 +1,5 @@
 -- `put_signed` meets its contract: a sign where there is one, and the size. Assumes nothing.
-use Rattle.text.proofs.Texts.{and-then, as-one}
+use Rattle.output.proofs.Pieces.{and-then, as-one}
 use borrow.Author.Needs.{needs}
 use native.Mathlib.Omega.{arith}
 use Rattle.aptime.proofs.put_signed.Statement.{statement}

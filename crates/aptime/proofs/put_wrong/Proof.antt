@@ -1,7 +1,7 @@
 -- `put_wrong` meets its contract: piece by piece. Assumes nothing.
 use mathlib.Core.Path.{_∙_}
 use mathlib.Core.List.{append-assoc}
-use Rattle.text.proofs.Texts.{and-then, from-start}
+use Rattle.output.proofs.Pieces.{and-then, from-start}
 use borrow.Author.Needs.{needs}
 use native.Mathlib.Omega.{arith}
 use Rattle.aptime.proofs.put_wrong.Statement.{statement}

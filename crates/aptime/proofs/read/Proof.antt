@@ -6,7 +6,7 @@ use denote.Ref.{now}
 use lib.ListN.{length, take, drop, length-drop}
 use lib.Seq.{length-take-le}
 use borrow.Author.Tests.{eq-eqb, ne-eqb}
-use Rattle.text.proofs.Texts.{to-end}
+use Rattle.text.proofs.Inputs.{to-end}
 use Rattle.aptime.specs.Lines.{lines, readFrom}
 use Rattle.aptime.proofs.Turns.{again, stops, not-asked, all-read}
 use borrow.Author.Needs.{needs}

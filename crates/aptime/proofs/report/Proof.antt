@@ -1,7 +1,7 @@
 -- `report` meets its contract: an input that is too long is refused, and another is read. Assumes nothing.
 use mathlib.Core.Path.{sym}
 use lib.Seq.{length-take-le}
-use Rattle.text.proofs.Texts.{from-start}
+use Rattle.output.proofs.Pieces.{from-start}
 use Rattle.aptime.specs.Printing.{tooLong}
 use borrow.Author.Needs.{needs}
 use native.Mathlib.Omega.{arith}

@@ -3,7 +3,7 @@ use Prim.Native.Nat.{ℕ}
 use mathlib.Core.Path.{ap, _∙_}
 use denote.Ref.{now}
 use lib.ListN.{drop}
-use Rattle.text.proofs.Texts.{to-end}
+use Rattle.text.proofs.Inputs.{to-end}
 use Rattle.aptime.specs.Words.{trimmed}
 use borrow.Author.Needs.{needs}
 use Rattle.aptime.proofs.trimmed.Statement.{statement}

@@ -1,7 +1,7 @@
 -- `put_number` meets its contract: one byte behind the decimal. Assumes nothing.
 use native.Mathlib.Omega.{arith}
 use borrow.Author.Needs.{needs}
-use Rattle.text.proofs.Texts.{and-byte}
+use Rattle.output.proofs.Pieces.{and-byte}
 use Rattle.text.proofs.put_number.Statement.{statement}
 use Rattle.text.proofs.put_number.Tie as tie
 

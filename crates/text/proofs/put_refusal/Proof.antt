@@ -2,7 +2,7 @@
 use native.Mathlib.Omega.{arith}
 use mathlib.Core.List.{append-assoc}
 use borrow.Author.Needs.{needs}
-use Rattle.text.proofs.Texts.{and-then, as-one}
+use Rattle.output.proofs.Pieces.{and-then, as-one}
 use Rattle.text.proofs.put_refusal.Statement.{statement}
 use Rattle.text.proofs.put_refusal.Tie as tie
 

@@ -1,0 +1,2 @@
+-- Laws for the proofs of this crate and of those that put bytes together.
+pub mod Pieces
