@@ -7,22 +7,20 @@ ghost use lib.Dec.{leb};
 ghost use lib.ListN.{length, getD, set};
 ghost use Rattle.rules.specs.Bytes.{byteAt};
 ghost use Rattle.rules.specs.Lists.{least, someBelow};
-ghost use Rattle.rules.specs.Table.{entry, named, bodyOf, isBody, children};
+ghost use Rattle.rules.specs.Table.{entry, named, children};
 ghost use Rattle.rules.specs.WaitFor.{asks, nodeCount, node};
 ghost use Rattle.rules.specs.Answers.{_andThen_, refuseAt, strayFirst, badBytes, badNode, badRank, badWait, formulasCheck};
-ghost use Rattle.rules.specs.declared.Body.the-variants.{Leaf};
 ghost use Rattle.rules.specs.declared.Refusal.the-variants.{Formula, Wait};
 ghost use Rattle.children.specs.Sets.{Empty, setOf};
 ghost use Rattle.lowest.specs.Lowest.{Lowest};
 ghost use Rattle.nodes.specs.Checking.{HasNodes, Uses, usedOnceMore, badOperands, FirstOwners, Owners, Children, asking};
 ghost use Rattle.nodes.specs.Checking.{asksNode, joins};
 use reading::entry_at;
+use reading::is_leaf;
 use reading::node_at;
 use reading::node_count;
-use rules::Body;
 use rules::Node;
 use rules::Outcome;
-use rules::PlanEntry;
 use rules::Refusal;
 use rules::at_least;
 
@@ -239,13 +237,6 @@ fn joins(e: Node) -> bool
     ensures { λ r. ⌜ r ≡ joins e ⌝ }
 {
     (2 <= e.kind) & (e.kind <= 4)
-}
-
-// Whether the plan has no children, by its body.
-fn is_leaf(e: PlanEntry) -> bool
-    ensures { λ r. ⌜ r ≡ isBody Leaf (bodyOf e) ⌝ }
-{
-    e.body_kind().is(Body::Leaf)
 }
 
 // A byte as an index: named, so that a reader of it has its bound.

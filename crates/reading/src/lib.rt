@@ -5,9 +5,11 @@ ghost use mathlib.Core.Path.{_≡_};
 ghost use Prim.Native.Nat.{_+_, _*_, _<_, _≤_};
 ghost use lib.ListN.{length};
 ghost use Rattle.rules.specs.Bytes.{byteAt, u16At, u32At};
-ghost use Rattle.rules.specs.Table.{planCount, entry, parent};
+ghost use Rattle.rules.specs.Table.{planCount, entry, parent, bodyOf, isBody};
 ghost use Rattle.rules.specs.WaitFor.{firstVersion, nodeCount, node};
 ghost use Rattle.rules.specs.Words.{word};
+ghost use Rattle.rules.specs.declared.Body.the-variants.{Leaf};
+use rules::Body;
 use rules::Node;
 use rules::PlanEntry;
 
@@ -26,6 +28,13 @@ pub fn entry_at(table: &[u8], p: usize) -> PlanEntry
         overridable: table[at + 6],
         wait: table[at + 7],
     }
+}
+
+// Whether a plan has no children, by the body of its entry.
+pub fn is_leaf(e: PlanEntry) -> bool
+    ensures { λ r. ⌜ r ≡ isBody Leaf (bodyOf e) ⌝ }
+{
+    e.body_kind().is(Body::Leaf)
 }
 
 // The number of plan p's parent, in a table that has plan p.

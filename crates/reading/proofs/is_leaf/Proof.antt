@@ -1,7 +1,7 @@
 -- `is_leaf` meets its contract: the body of the entry's number. Assumes nothing.
 use borrow.Author.Needs.{needs}
-use Rattle.nodes.proofs.is_leaf.Statement.{statement}
-use Rattle.nodes.proofs.is_leaf.Tie as tie
+use Rattle.reading.proofs.is_leaf.Statement.{statement}
+use Rattle.reading.proofs.is_leaf.Tie as tie
 
 returns : tie.Need-returns
 returns c = simp (c .is .ensures, c .before .body-kind .ensures)
