@@ -20,10 +20,8 @@ use Rattle.rules.proofs.PlanEntry.retries_aborted.Reads as retries-abor
 use Rattle.rules.proofs.PlanEntry.waits_for_optional.Reads as waits-for-optional
 use Rattle.rules.proofs.PlanEntry.is_named.Reads as is-named
 use Rattle.rules.proofs.PlanEntry.wait_for.Reads as wait-for
-use Rattle.rules.proofs.Refusal.place.Reads as placed
 use Rattle.rules.proofs.is_rule.Reads as is-rule
 use Rattle.rules.proofs.pick_of.Reads as pick-of
-use Rattle.rules.proofs.Pattern.put.Reads as put
 
 -- two answers that equal one thing are equal
 pub one-answer {ℓ} : {A : Type ℓ} {definition r r′ : A} → r ≡ definition → r′ ≡ definition → r ≡ r′
@@ -47,14 +45,13 @@ states-once = (by-equation, by-equation, by-equation, by-equation, by-equation, 
 -- those of a body, a condition, a bit and an input word
 pub bodies-once :
     OneAnswer is-body.Post × OneAnswer is-of-two.Post × OneAnswer bit.Post × OneAnswer is-set.Post
-    × OneAnswer pick-of.Post × OneAnswer put.Post
+    × OneAnswer pick-of.Post
 bodies-once = (
   by-equation,
   by-equation,
   record { once = λ κs a z z′ e e′ h h′. one-answer (h .0) (h′ .0) },
   by-equation,
   record { once = λ κs a z z′ e e′ h h′. one-answer (h .0) (h′ .0) },
-  by-equation,
 )
 
 -- those of a plan's entry
@@ -64,9 +61,9 @@ pub entries-once :
     × OneAnswer wait-for.Post
 entries-once = (by-equation, by-equation, by-equation, by-equation, by-equation, by-equation, by-equation)
 
--- and those of a refusal and of a rule number
-pub place-once : OneAnswer placed.Post × OneAnswer is-rule.Post
-place-once = (by-equation, by-equation)
+-- and that of a rule number
+pub rule-once : OneAnswer is-rule.Post
+rule-once = by-equation
 
 -- the same of a function that is lent something to write: its answers are one, and so is what it leaves there
 abbrev pub OneAnswerLeaving : {K A Z E L : Type 0} → (K → A → Z → E → Type 0) → (E → L) → Type 0

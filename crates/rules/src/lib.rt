@@ -1,7 +1,6 @@
 // What a plan, its table entry and its input word are, and what every call answers: the words of documents 01 and 02.
 // The rules themselves are the definitions of specs/; each function here meets one of them. Assumes nothing.
 ghost use mathlib.Core.Path.{_≡_};
-ghost use mathlib.Core.Bool.{cond};
 ghost use Prim.Native.Nat.{_<_};
 ghost use lib.Count.{ones};
 ghost use lib.Dec.{leb};
@@ -9,8 +8,8 @@ ghost use Rattle.rules.specs.Bytes.{isSet};
 ghost use Rattle.rules.specs.States.{code, stateOf, is, inSelection, inExecution, ended, wasActivated};
 ghost use Rattle.rules.specs.Table.{bodyNumber, bodyOf, isBody, ofTwo, retryAborted, waitForOptional, named, bitOf};
 ghost use Rattle.rules.specs.WaitFor.{joined, asks};
-ghost use Rattle.rules.specs.Answers.{placed, place, isRule};
-ghost use Rattle.rules.specs.Words.{pickOf, holds, satisfiable, withBits, withPattern};
+ghost use Rattle.rules.specs.Answers.{isRule};
+ghost use Rattle.rules.specs.Words.{pickOf, holds, satisfiable};
 
 // The state of a plan.
 pub enum PlanState {
@@ -206,39 +205,6 @@ pub enum Pattern {
     If,
 }
 
-impl Pattern {
-    // The word with what is known of the pattern in its bits: satisfied and, where the word can say so, satisfiable.
-    pub fn put(self, satisfied: bool, satisfiable: bool, word: u32) -> u32
-        ensures { λ r. ⌜ r ≡ withPattern self satisfied satisfiable word ⌝ }
-    {
-        match self {
-            Pattern::Of(c) => match c {
-                Condition::Filter => with_bits(1, 64, satisfied, satisfiable, word),
-                Condition::Setup => with_bits(2, 128, satisfied, satisfiable, word),
-                Condition::Suspend => with_bits(4, 0, satisfied, satisfiable, word),
-                Condition::Reactivate => with_bits(8, 0, satisfied, satisfiable, word),
-                Condition::Abort => with_bits(16, 0, satisfied, satisfiable, word),
-                Condition::Complete => with_bits(32, 0, satisfied, satisfiable, word),
-            },
-            Pattern::If => with_bits(1_048_576, 2_097_152, satisfied, satisfiable, word),
-        }
-    }
-}
-
-// The word with the first bits as satisfied says, the second as satisfiable says, and all others as they were.
-fn with_bits(first: u32, second: u32, satisfied: bool, satisfiable: bool, word: u32) -> u32
-    ensures { λ r. ⌜ r ≡ withBits first second satisfied satisfiable word ⌝ }
-{
-    (word & !(first | second)) | bits_if(satisfied, first) | bits_if(satisfiable, second)
-}
-
-// The bits, or none.
-fn bits_if(b: bool, bits: u32) -> u32
-    ensures { λ r. ⌜ r ≡ cond b bits 0 ⌝ }
-{
-    if b { bits } else { 0 }
-}
-
 // A plan's eight bytes of the table.
 pub struct PlanEntry {
     pub parent: u16,
@@ -431,47 +397,6 @@ pub struct Place {
     pub number: u8,
     pub step: u16,
     pub plan: u16,
-}
-
-impl Place {
-    fn new(number: u8, step: u16, plan: u16) -> Place
-        ensures { λ r. ⌜ r ≡ placed number step plan ⌝ }
-    {
-        Place { number, step, plan }
-    }
-}
-
-impl Refusal {
-    // The number of the refusal and its place.
-    pub fn place(self) -> Place
-        ensures { λ r. ⌜ r ≡ place self ⌝ }
-    {
-        match self {
-            Refusal::TableShort => Place::new(1, 0, 0),
-            Refusal::TableMark => Place::new(2, 0, 0),
-            Refusal::TableVersion => Place::new(3, 0, 0),
-            Refusal::TableCount => Place::new(4, 0, 0),
-            Refusal::TableLength => Place::new(5, 0, 0),
-            Refusal::Parent { plan } => Place::new(6, 0, plan),
-            Refusal::Undefined { plan } => Place::new(7, 0, plan),
-            Refusal::Unfit { plan } => Place::new(8, 0, plan),
-            Refusal::Wait { plan } => Place::new(9, 0, plan),
-            Refusal::Lengths => Place::new(10, 0, 0),
-            Refusal::State { plan } => Place::new(11, 0, plan),
-            Refusal::Word { step, plan } => Place::new(12, step, plan),
-            Refusal::RecordHeader => Place::new(13, 0, 0),
-            Refusal::RecordLength => Place::new(14, 0, 0),
-            Refusal::Unexplained { step, plan } => Place::new(15, step, plan),
-            Refusal::InputLong => Place::new(16, 0, 0),
-            Refusal::RuleNumber => Place::new(17, 0, 0),
-            Refusal::ValueRange => Place::new(18, 0, 0),
-            Refusal::ManySamples => Place::new(19, 0, 0),
-            Refusal::TimesOrder => Place::new(20, 0, 0),
-            Refusal::NoInterval => Place::new(21, 0, 0),
-            Refusal::Formula { node } => Place::new(22, 0, node),
-            Refusal::NormalRange => Place::new(26, 0, 0),
-        }
-    }
 }
 
 // What a check or a step answers.

@@ -1,7 +1,9 @@
-// The step, the run to rest, the checker and what makes a word's pattern bits, for a tablet's host program written in C, on numbers and
-// slices; include/asbru.h declares them. An answer is one 64-bit number, which `Packed` in specs/ lays out. Nothing is allocated. Assumes
-// nothing.
+// The step, the run to rest, the checker and what makes a word's pattern bits, for a tablet's host program written in
+// C, on numbers and slices; include/asbru.h declares them. An answer is one 64-bit number, which `Packed` in specs/ lays out. Nothing is
+// allocated. Assumes nothing.
 ghost use mathlib.Core.Path.{_≡_};
+ghost use mathlib.Core.Bool.{cond};
+ghost use Rattle.rules.specs.Words.{withBits, withPattern};
 ghost use Rattle.rules.specs.Answers.{stepAnswer, stepStates, runAnswer, runStates};
 ghost use Rattle.tablet.specs.Packed.{packed, packedRefusal, packedOutcome, packedRest, packedVerdict, Told};
 ghost use Rattle.tablet.specs.Packed.{packedJudgement, PatternTold, NormalTold, patternOf, withAnswer};
@@ -73,7 +75,12 @@ pub extern "C" fn asbru_with_pattern(word: u32, condition: u32, answer: u64) -> 
     if 6 < condition {
         return word;
     }
-    pattern_of(condition).put((answer >> 16) % 2 == 1, (answer >> 17) % 2 == 1, word)
+    put(
+        pattern_of(condition),
+        (answer >> 16) % 2 == 1,
+        (answer >> 17) % 2 == 1,
+        word,
+    )
 }
 
 // The pattern that a number stands for: a condition by its bit, and 6 for if-then-else.
@@ -89,6 +96,37 @@ fn pattern_of(condition: u32) -> Pattern
         5 => Pattern::Of(Condition::Complete),
         _ => Pattern::If,
     }
+}
+
+// The word with what is known of the pattern in its bits: satisfied and, where the word can say so, satisfiable.
+fn put(pattern: Pattern, satisfied: bool, satisfiable: bool, word: u32) -> u32
+    ensures { λ r. ⌜ r ≡ withPattern pattern satisfied satisfiable word ⌝ }
+{
+    match pattern {
+        Pattern::Of(c) => match c {
+            Condition::Filter => with_bits(1, 64, satisfied, satisfiable, word),
+            Condition::Setup => with_bits(2, 128, satisfied, satisfiable, word),
+            Condition::Suspend => with_bits(4, 0, satisfied, satisfiable, word),
+            Condition::Reactivate => with_bits(8, 0, satisfied, satisfiable, word),
+            Condition::Abort => with_bits(16, 0, satisfied, satisfiable, word),
+            Condition::Complete => with_bits(32, 0, satisfied, satisfiable, word),
+        },
+        Pattern::If => with_bits(1_048_576, 2_097_152, satisfied, satisfiable, word),
+    }
+}
+
+// The word with the first bits as satisfied says, the second as satisfiable says, and all others as they were.
+fn with_bits(first: u32, second: u32, satisfied: bool, satisfiable: bool, word: u32) -> u32
+    ensures { λ r. ⌜ r ≡ withBits first second satisfied satisfiable word ⌝ }
+{
+    (word & !(first | second)) | bits_if(satisfied, first) | bits_if(satisfiable, second)
+}
+
+// The bits, or none.
+fn bits_if(b: bool, bits: u32) -> u32
+    ensures { λ r. ⌜ r ≡ cond b bits 0 ⌝ }
+{
+    if b { bits } else { 0 }
 }
 
 // What the step answers.
@@ -138,7 +176,7 @@ fn pack_judgement(judgement: Judgement) -> u64
 fn pack_refusal(why: Refusal) -> u64
     ensures { λ r. ⌜ r ≡ packedRefusal why ⌝ }
 {
-    let place = why.place();
+    let place = places::place(why);
     pack(place.number, place.step, place.plan)
 }
 

@@ -86,7 +86,7 @@ pub fn put_refusal(why: Refusal, out: &mut [u8], at: usize) -> usize
     requires { ⌜ at + 71 ≤ length (now out) ⌝ }
     ensures { λ r. ⌜ Put 71 (now (out .entry)) at (line 0 (Verdict.Refused why)) (now (out .exit)) r ⌝ }
 {
-    let place = why.place();
+    let place = places::place(why);
     let at = put(b"refused ", out, at);
     let at = put_number(place.number as u64, b' ', out, at);
     let at = put_number(place.step as u64, b' ', out, at);

@@ -304,7 +304,7 @@ fn print_rest(r: Rest) {
 }
 
 fn print_refusal(why: Refusal) {
-    let place = why.place();
+    let place = places::place(why);
     print(b"refused");
     print_number(place.number as u64);
     print_number(place.step as u64);

@@ -1,7 +1,7 @@
 -- `with_bits` meets its contract. Assumes nothing.
 use borrow.Author.Needs.{needs}
-use Rattle.rules.proofs.with_bits.Statement.{statement}
-use Rattle.rules.proofs.with_bits.Tie as tie
+use Rattle.tablet.proofs.with_bits.Statement.{statement}
+use Rattle.tablet.proofs.with_bits.Tie as tie
 
 returns : tie.Need-returns
 returns c = simp (c .bits-if2 .ensures, c .before .bits-if .ensures)

@@ -1,0 +1,2 @@
+-- That the answer is one.
+pub mod Unique
