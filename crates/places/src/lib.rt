@@ -32,6 +32,8 @@ pub fn place(why: Refusal) -> Place
         Refusal::TimesOrder => placed(20, 0, 0),
         Refusal::NoInterval => placed(21, 0, 0),
         Refusal::Formula { node } => placed(22, 0, node),
+        Refusal::NodeKind => placed(23, 0, 0),
+        Refusal::OutputShort => placed(24, 0, 0),
         Refusal::NormalRange => placed(26, 0, 0),
     }
 }

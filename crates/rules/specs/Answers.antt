@@ -1,5 +1,6 @@
--- Document 01, 'Answer numbers', as document 02 (i), (ii) and (v) widen them: the number and place of each refusal, the test behind each,
--- their order in each call, and what each call answers and leaves. Assumes nothing.
+-- Document 01, 'Answer numbers', as document 02 (i), (ii) and (v) widen them: the number and place of each refusal, those of (iii) and
+-- (vi) among them, and, of documents 01 and 02 (i), (ii), (v), the test behind each, their order in each call, and what each call answers
+-- and leaves. Assumes nothing.
 use Prim.Native.Nat.{ℕ, zero, suc, _+_, _*_, _-_, _%_, _^_, _<_}
 use mathlib.Core.Bool.{Bool, true, false, cond, not, _&&_, _||_, Bool·beq}
 use mathlib.Core.Path.{_≡_}
@@ -60,6 +61,8 @@ use Rattle.rules.specs.declared.Refusal.the-variants.{
   TimesOrder,
   NoInterval,
   Formula,
+  NodeKind,
+  OutputShort,
   NormalRange,
 }
 use Rattle.rules.specs.declared.Outcome.{Outcome}
@@ -96,6 +99,8 @@ place ManySamples = placed 19 0 0
 place TimesOrder = placed 20 0 0
 place NoInterval = placed 21 0 0
 place (Formula i) = placed 22 0 i
+place NodeKind = placed 23 0 0
+place OutputShort = placed 24 0 0
 place NormalRange = placed 26 0 0
 
 -- one check, and if it finds nothing the next

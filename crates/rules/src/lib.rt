@@ -389,6 +389,8 @@ pub enum Refusal {
     TimesOrder,
     NoInterval,
     Formula { node: u16 },
+    NodeKind,
+    OutputShort,
     NormalRange,
 }
 
@@ -405,7 +407,7 @@ pub enum Outcome {
     Refused(Refusal),
 }
 
-// What a whole table answers, with its plans, and a whole record, with its steps.
+// What a whole table answers, with its plans, a whole record, with its steps, and a table that is moved, with the bytes written.
 pub enum Verdict {
     Accepted(u16),
     Refused(Refusal),

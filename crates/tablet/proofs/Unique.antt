@@ -1,5 +1,5 @@
 -- One answer: any two that the contract of a function for C permits are equal, and so are the states that `asbru_step` and `asbru_rest`
--- leave and the numbers that `asbru_normalise` does, the contract being as Rattle reads it. And packing loses nothing: a host finds
+-- leave, the output that the two moves do and the numbers that `asbru_normalise` does, the contract being as Rattle reads it. And packing loses nothing: a host finds
 -- number, plan and step in an answer again, and a refusal's number is never 0. Assumes nothing.
 use Prim.Native.Nat.{ℕ, _/_, _%_, _^_, _<_, _≤_}
 use native.Mathlib.Omega.{arith}
@@ -31,6 +31,8 @@ use Rattle.rules.specs.declared.Refusal.the-variants.{
   TimesOrder,
   NoInterval,
   Formula,
+  NodeKind,
+  OutputShort,
   NormalRange,
 }
 use Rattle.rules.proofs.Unique.{one-answer, by-equation, OneAnswer, OneAnswerLeaving}
@@ -39,6 +41,8 @@ use Rattle.time.proofs.Unique as time
 use Rattle.tablet.proofs.asbru_step.Reads as asbru-step
 use Rattle.tablet.proofs.asbru_rest.Reads as asbru-rest
 use Rattle.tablet.proofs.asbru_check.Reads as asbru-check
+use Rattle.tablet.proofs.asbru_to_version_1.Reads as asbru-to-version-1
+use Rattle.tablet.proofs.asbru_to_version_2.Reads as asbru-to-version-2
 use Rattle.tablet.proofs.asbru_pattern.Reads as asbru-pattern
 use Rattle.tablet.proofs.asbru_normalise.Reads as asbru-normalise
 use Rattle.tablet.proofs.asbru_with_pattern.Reads as asbru-with-pattern
@@ -64,6 +68,12 @@ asbru-step-once κs a z z′ e e′ h h′ = (one-answer (h .0) (h′ .0), one-a
 
 pub asbru-rest-once : OneAnswerLeaving asbru-rest.Post (λ e. now (e .1 .1 .0))
 asbru-rest-once κs a z z′ e e′ h h′ = (one-answer (h .0) (h′ .0), one-answer (h .1) (h′ .1))
+
+pub asbru-to-version-2-once : OneAnswerLeaving asbru-to-version-2.Post (λ e. now (e .1 .0))
+asbru-to-version-2-once κs a z z′ e e′ h h′ = (one-answer (h .0) (h′ .0), one-answer (h .1) (h′ .1))
+
+pub asbru-to-version-1-once : OneAnswerLeaving asbru-to-version-1.Post (λ e. now (e .1 .0))
+asbru-to-version-1-once κs a z z′ e e′ h h′ = (one-answer (h .0) (h′ .0), one-answer (h .1) (h′ .1))
 
 pattern-told-once : (l h : List ℕ) (z : ℕ) {a b : ℕ} → PatternTold l h z a → PatternTold l h z b → a ≡ b
 pattern-told-once l h z x y = x .told ∙ ap packedJudgement (time.judged-once l h z (x .judged) (y .judged)) ∙ sym (y .told)
@@ -124,6 +134,8 @@ refusal-number ManySamples = (omega arith, omega arith)
 refusal-number TimesOrder = (omega arith, omega arith)
 refusal-number NoInterval = (omega arith, omega arith)
 refusal-number (Formula i) = (omega arith, omega arith)
+refusal-number NodeKind = (omega arith, omega arith)
+refusal-number OutputShort = (omega arith, omega arith)
 refusal-number NormalRange = (omega arith, omega arith)
 
 -- so two refusals that are packed alike have the same number, step and plan,

@@ -42,7 +42,7 @@ packedRest budget (rest.Rested k) = packed 0 k 0
 packedRest budget rest.Moving = packed 0 budget 1
 packedRest budget (rest.Refused why) = packedRefusal why
 
--- the checker: accepted has number 0, plan 0 and the number of steps as its step
+-- the checker: accepted has number 0, plan 0 and the number of steps as its step; a move the number of bytes written
 abbrev pub packedVerdict : Verdict → ℕ
 packedVerdict (verdict.Accepted steps) = packed 0 steps 0
 packedVerdict (verdict.Refused why) = packedRefusal why

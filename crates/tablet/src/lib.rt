@@ -1,10 +1,11 @@
-// The step, the run to rest, the checker and what makes a word's pattern bits, for a tablet's host program written in
+// The step, the run to rest, the checker, the moves of tables and what makes a word's pattern bits, for a tablet's host program written in
 // C, on numbers and slices; include/asbru.h declares them. An answer is one 64-bit number, which `Packed` in specs/ lays out. Nothing is
 // allocated. Assumes nothing.
 ghost use mathlib.Core.Path.{_≡_};
 ghost use mathlib.Core.Bool.{cond};
 ghost use Rattle.rules.specs.Words.{withBits, withPattern};
 ghost use Rattle.rules.specs.Answers.{stepAnswer, stepStates, runAnswer, runStates};
+ghost use Rattle.versions.specs.Versions.{checkTo1, checkTo2, inVersion1, inVersion2, moveAnswer, moveOutput};
 ghost use Rattle.tablet.specs.Packed.{packed, packedRefusal, packedOutcome, packedRest, packedVerdict, Told};
 ghost use Rattle.tablet.specs.Packed.{packedJudgement, PatternTold, NormalTold, patternOf, withAnswer};
 use rules::Condition;
@@ -46,6 +47,28 @@ pub extern "C" fn asbru_check(rule: u32, table: &[u8], record: &[u8]) -> u64
     ensures { λ r. ⌜ Told rule (now (table .entry)) (now («record» .entry)) r ⌝ }
 {
     pack_verdict(record::check(rule, table, record))
+}
+
+// Puts a table of version 1, as one of version 2, at the start of the output, or a refusal that changes none of it.
+#[no_mangle]
+pub extern "C" fn asbru_to_version_2(table: &[u8], output: &mut [u8]) -> u64
+    ensures answer { λ r. ⌜ r
+        ≡ packedVerdict (moveAnswer (checkTo2 (now (table .entry))) (inVersion2 (now (table .entry))) (now (output .entry))) ⌝ }
+    ensures left { λ _. ⌜ now (output .exit)
+        ≡ moveOutput (checkTo2 (now (table .entry))) (inVersion2 (now (table .entry))) (now (output .entry)) ⌝ }
+{
+    pack_verdict(versions::to_version_2(table, output))
+}
+
+// The same from version 2 to 1.
+#[no_mangle]
+pub extern "C" fn asbru_to_version_1(table: &[u8], output: &mut [u8]) -> u64
+    ensures answer { λ r. ⌜ r
+        ≡ packedVerdict (moveAnswer (checkTo1 (now (table .entry))) (inVersion1 (now (table .entry))) (now (output .entry))) ⌝ }
+    ensures left { λ _. ⌜ now (output .exit)
+        ≡ moveOutput (checkTo1 (now (table .entry))) (inVersion1 (now (table .entry))) (now (output .entry)) ⌝ }
+{
+    pack_verdict(versions::to_version_1(table, output))
 }
 
 // Whether a history satisfies a time annotation at the minute of asking, or still can.
@@ -150,7 +173,7 @@ fn pack_rest(rest: Rest, budget: u16) -> u64
     }
 }
 
-// What the checker answers.
+// What the checker, and the move of a table, answers.
 fn pack_verdict(verdict: Verdict) -> u64
     ensures { λ r. ⌜ r ≡ packedVerdict verdict ⌝ }
 {

@@ -4,6 +4,8 @@
 //   move RULE TABLE STATES WORDS          takes one step, and shows the states that it leaves
 //   rest RULE TABLE STATES WORDS BUDGET   steps until rest, and shows the states that it leaves
 //   judge RULE TABLE RECORD               checks a record
+//   up TABLE OUTPUT                       moves a table to version 2, and shows the output that it leaves
+//   down TABLE OUTPUT                     moves a table to version 1, likewise
 // with bytes in hexadecimal (see `bytes_of`) and numbers in decimal. A line that begins with `#` is printed as it is,
 // and an empty one as well.
 // Assumes what `io` does of read and write, and that the input is at most 262,144 bytes.
@@ -71,6 +73,8 @@ fn run_line(line: &[u8]) {
         b'm' => run_call(line, false),
         b'r' => run_call(line, true),
         b'j' => run_judge(line),
+        b'u' => run_move(line, true),
+        b'd' => run_move(line, false),
         _ => {
             print(b"no such trial");
             end_line();
@@ -251,9 +255,28 @@ fn record_buffer() -> [u8; 327688]
     [0; 327688]
 }
 
-fn print_left(states: &[u8]) {
+// Lends a table and an output to the move of a table, to version 2 or to version 1.
+fn run_move(line: &[u8], up: bool) {
+    let mut space = io::buffer();
+    let n = bytes_of(field(line, 1), &mut space);
+    let mut output = io::buffer();
+    let m = bytes_of(field(line, 2), &mut output);
+    move_table(&space[..n], &mut output[..m], up);
+}
+
+fn move_table(table: &[u8], output: &mut [u8], up: bool) {
+    if up {
+        print_answer(versions::to_version_2(table, output));
+        print_left(output);
+        return;
+    }
+    print_answer(versions::to_version_1(table, output));
+    print_left(output);
+}
+
+fn print_left(lent: &[u8]) {
     print(b" ");
-    print_bytes(states);
+    print_bytes(lent);
 }
 
 fn print_bytes(s: &[u8]) {
@@ -275,6 +298,11 @@ fn print_number(x: u64) {
 }
 
 fn print_verdict(v: Verdict) {
+    print_answer(v);
+    end_line();
+}
+
+fn print_answer(v: Verdict) {
     match v {
         Verdict::Accepted(n) => {
             print(b"accepted");
@@ -282,7 +310,6 @@ fn print_verdict(v: Verdict) {
         }
         Verdict::Refused(why) => print_refusal(why),
     }
-    end_line();
 }
 
 fn print_outcome(o: Outcome) {
