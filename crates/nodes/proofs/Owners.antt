@@ -422,7 +422,7 @@ unfolding firstNodes askedNodes
 no-uses t buffer empty room = record { room = room; used = λ j l. empty j l }
 
 -- a search finds something if and only if there is something
-none-true : (f : ℕ → Bool) (n : ℕ) → someBelow f n ≡ false → (j : ℕ) → j < n → f j ≡ false
+pub none-true : (f : ℕ → Bool) (n : ℕ) → someBelow f n ≡ false → (j : ℕ) → j < n → f j ≡ false
 unfolding someBelow
 none-true f zero h j l = absurd (omega arith)
 none-true f (suc n) h j l = go (someBelow f n) (f n) refl refl h (none-true f n) (ℕ-discrete j n)

@@ -170,7 +170,7 @@ module _ (t : List ℕ) (done : formulasCheck t ≡ Done) where
   unfolding formulasCheck
   no-stray = nowhere (strayFirst t) (planCount t) (at-done _ _ (first-done _ _ (then-done _ _ done)))
 
-  good : (i : ℕ) → i < nodeCount t → badNode t i ≡ false
+  pub good : (i : ℕ) → i < nodeCount t → badNode t i ≡ false
   unfolding formulasCheck
   good = nowhere (badNode t) (nodeCount t) (at-done _ _ (first-done _ _ (then-done _ _ (then-done _ _ done))))
 
@@ -199,10 +199,23 @@ module _ (t : List ℕ) (done : formulasCheck t ≡ Done) where
   begins : (p : ℕ) → isLeaf t p ≡ false → beginsWith t (entry t p .wait) p ≡ true
   begins p parts = rw (parts, eq-eqb (entry t p .wait) (entry t p .wait) refl)
 
-  first-there : (p : ℕ) → p < planCount t → isLeaf t p ≡ false → entry t p .wait < nodeCount t
+  pub first-there : (p : ℕ) → p < planCount t → isLeaf t p ≡ false → entry t p .wait < nodeCount t
   unfolding strayFirst
   first-there p l parts =
       leb-false (nodeCount t) (entry t p .wait) (sym (ap (λ (b : Bool). not b && leb (nodeCount t) (entry t p .wait)) parts) ∙ no-stray p l)
+
+  -- a node that no node asks is the first of some plan's formula
+  pub some-begins :
+      (j : ℕ) → j < nodeCount t → ((i : ℕ) → i < nodeCount t → usesNode t j i ≡ false)
+      → (p : ℕ) × (p < planCount t) × (beginsWith t j p ≡ true)
+  some-begins j there unasked =
+      some-counted (beginsWith t j) (begun t j) (begun-counts t j) (planCount t) (go (asked t j (nodeCount t)) refl)
+    where
+      go : (k : ℕ) → asked t j (nodeCount t) ≡ k → 0 < begun t j (planCount t)
+      go zero none = omega (arith, used-once j there)
+      go (suc k) some =
+          let found = some-counted (usesNode t j) (asked t j) (asked-counts t j) (nodeCount t) (omega (arith, some)) in
+          absurd (true≢false (sym (found .2) ∙ unasked (found .0) (found .1)))
 
   -- the first node of a plan's formula stands in it
   pub first-stands : (p : ℕ) → p < planCount t → isLeaf t p ≡ false → owner t (entry t p .wait) ≡ p
