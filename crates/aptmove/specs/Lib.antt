@@ -1,0 +1,2 @@
+-- What the program `aptmove` writes, as definitions.
+pub mod Moving
