@@ -339,9 +339,16 @@ pub fn good_table(dice: &mut Dice, n: usize) -> Vec<u8> {
     in_either_version(dice, table, &ALL_MANNERS)
 }
 
-fn good_table_of_version_1(dice: &mut Dice, n: usize) -> Vec<u8> {
+pub fn good_table_of_version_1(dice: &mut Dice, n: usize) -> Vec<u8> {
     let shape = dice.one_of(&SHAPES);
     let parents = parents(dice, n, shape, reference::MOST_CHILDREN);
+    let style = any_style(dice);
+    table_of_version_1(dice, &parents, &style)
+}
+
+/// One child a plan.
+pub fn chain_of_version_1(dice: &mut Dice, n: usize) -> Vec<u8> {
+    let parents: Vec<usize> = (0..n).map(|p| p.checked_sub(1).unwrap_or(reference::NO_PARENT)).collect();
     let style = any_style(dice);
     table_of_version_1(dice, &parents, &style)
 }
@@ -491,7 +498,7 @@ fn spoil_length(dice: &mut Dice, bytes: &mut Vec<u8>) {
 }
 
 /// The number of plans whose entries are all there.
-fn whole_entries(table: &[u8]) -> usize {
+pub fn whole_entries(table: &[u8]) -> usize {
     let after_header = table.len().saturating_sub(HEADER) / ENTRY;
     let counted = if table.len() < HEADER { 0 } else { reference::number_of_16_bits(table, 5) };
     after_header.min(counted)
@@ -847,6 +854,18 @@ pub fn for_each_step(rule: Rule, plans: &[Plan], record: &[u8], mut look: impl F
         look(&Before { rule, plans, states, words: &reference::read_words(words) }, shown);
         states = shown;
     }
+}
+
+/// A record that was kept by either rule; half of them are spoiled.
+#[cfg(test)]
+pub fn any_record(dice: &mut Dice, plans: &[Plan]) -> Vec<u8> {
+    let (_, kept_by) = any_rule(dice);
+    let steps = record_steps(dice, plans.len());
+    let mut record = good_record(dice, kept_by, plans, Story::Losses, steps);
+    if dice.percent(50) {
+        spoil_record(dice, &mut record, plans);
+    }
+    record
 }
 
 fn record_steps(dice: &mut Dice, n: usize) -> usize {

@@ -2,8 +2,9 @@
  * The library behind a pipe: reads calls from standard input, makes them, and writes what they answer and leave, for host/differ.rs to
  * compare. With the argument `plain` the calls go to host/plain.c instead. All numbers are little-endian.
  *
- *   call:   kind (1 byte: 1 step, 2 rest, 3 check), the rule (4 bytes), the lengths of table, states and words (4 bytes each; of a check
- *           the words are the record, and the states are empty), the budget (2 bytes), then the bytes of table, states and words
+ *   call:   kind (1 byte: 1 step, 2 rest, 3 check, 4 to version 1, 5 to version 2), the rule (4 bytes), the lengths of table, states and
+ *           words (4 bytes each; of a check the words are the record, and the states are empty; of a move the states are what stands in
+ *           the output, and the words are empty), the budget (2 bytes), then the bytes of table, states and words
  *   answer: the answer (8 bytes), the states, and 1 if the bytes around all buffers are as they were, and those of table and words
  */
 #include "asbru.h"
@@ -14,10 +15,13 @@ typedef struct {
     uint64_t (*step)(uint32_t, const uint8_t *, size_t, uint8_t *, size_t, const uint8_t *, size_t);
     uint64_t (*rest)(uint32_t, const uint8_t *, size_t, uint8_t *, size_t, const uint8_t *, size_t, uint16_t);
     uint64_t (*check)(uint32_t, const uint8_t *, size_t, const uint8_t *, size_t);
+    uint64_t (*to_version_1)(const uint8_t *, size_t, uint8_t *, size_t);
+    uint64_t (*to_version_2)(const uint8_t *, size_t, uint8_t *, size_t);
 } Calls;
 
 int main(int argc, char **argv) {
-    static const Calls library = {asbru_step, asbru_rest, asbru_check}, plain = {plain_step, plain_rest, plain_check};
+    static const Calls library = {asbru_step, asbru_rest, asbru_check, asbru_to_version_1, asbru_to_version_2};
+    static const Calls plain = {plain_step, plain_rest, plain_check, plain_to_version_1, plain_to_version_2};
     const Calls *calls = argc > 1 && strcmp(argv[1], "plain") == 0 ? &plain : &library;
     for (int kind; (kind = getchar()) != EOF;) {
         uint32_t rule = (uint32_t)number(4);
@@ -25,6 +29,8 @@ int main(int argc, char **argv) {
         for (int k = 0; k < 3; k++) lengths[k] = (size_t)number(4);
         uint16_t budget = (uint16_t)number(2);
         Buffer table = take(lengths[0]), states = take(lengths[1]), words = take(lengths[2]);
+        /* an empty output may be NULL, and here it is */
+        uint8_t *output = states.length ? states.bytes : NULL;
         uint64_t answer = 0;
         switch (kind) {
         case 1:
@@ -35,6 +41,12 @@ int main(int argc, char **argv) {
             break;
         case 3:
             answer = calls->check(rule, table.bytes, table.length, words.bytes, words.length);
+            break;
+        case 4:
+            answer = calls->to_version_1(table.bytes, table.length, output, states.length);
+            break;
+        case 5:
+            answer = calls->to_version_2(table.bytes, table.length, output, states.length);
             break;
         default:
             need(0, "no such call");

@@ -5,23 +5,29 @@
 //! starts CHILD with ARGS, writes requests to its standard input and reads answers from its
 //! standard output, as talk.rs tells. All numbers are little-endian.
 //!
-//!     request: u8 kind (1 step, 2 rest, 3 check); u32 rule; u32 length of the table, u32 of the
-//!              states (0 for a check), u32 of the words (for a check: of the record); u16 budget (0
-//!              unless rest); the bytes of the table, of the states, of the words or record
-//!     answer:  u64; the states, as many bytes as were sent; u8, 1 when the guard bytes around all
+//!     request: u8 kind (1 step, 2 rest, 3 check, 4 to version 1, 5 to version 2); u32 rule (0 for the last two);
+//!              u32 length of the table, u32 of the states (0 for a check; for the last two: of the output), u32 of
+//!              the words (for a check: of the record; 0 for the last two); u16 budget (0 unless rest); the bytes of
+//!              the table, of the states or of what stands in the output, of the words or record
+//!     answer:  u64; the states or the output, as many bytes as were sent; u8, 1 when the guard bytes around all
 //!              buffers of the child are intact
 //!
-//! Status 0: N calls were made without a difference and without a move that the rules do not allow,
-//! and, from `REACH_FROM` calls on or as many as `--reach-from` says, they reached every answer number
-//! of the library's, every move of a plan that the rules allow, and all that turns.rs wants of the bodies
-//! 5 to 8, losses.rs of the two rules and formulas.rs of the tables of version 2. Status 1: anything else.
+//! Status 0: N calls of the first three and then `PER_MOVE` times fewer of the others, which move tables, were made
+//! without a difference and without a move of a plan that the rules do not allow, and, from `REACH_FROM` calls on or
+//! as many as `--reach-from` says, they reached every answer number of the library's, every move of a plan that the
+//! rules allow, and all that turns.rs wants of the bodies 5 to 8, losses.rs of the two rules, formulas.rs of the
+//! tables of version 2 and move_reached.rs of the moves of tables. Status 1: anything else.
 
 mod cases;
 mod dice;
 mod formula_cases;
 mod formulas;
 mod losses;
+mod move_cases;
+mod move_reached;
 mod reference;
+#[cfg(test)]
+mod same_steps;
 #[cfg(test)]
 mod self_test;
 mod talk;
@@ -29,7 +35,8 @@ mod tally;
 mod turns;
 
 use cases::{Call, Kind, Maker};
-use dice::hex;
+use dice::{hex, Dice};
+use move_cases::Move;
 use reference::Rule;
 use std::process::ExitCode;
 use talk::{number_of, Options};
@@ -49,9 +56,17 @@ fn main() -> ExitCode {
 
 /// From so many calls on a run is held to what it must reach.
 const REACH_FROM: u64 = 200_000;
+/// For so many calls of step, rest and check a table is moved once.
+const PER_MOVE: u64 = 4;
 
 fn run() -> Result<(), String> {
     let options = Options::from_arguments("differ", REACH_FROM)?;
+    compare_calls(&options)?;
+    compare_moves(&options.one_in(PER_MOVE))
+}
+
+/// Step, rest and check.
+fn compare_calls(options: &Options) -> Result<(), String> {
     let mut maker = Maker::new(options.seed);
     let mut counts = Counts::default();
     // the situations in the pool go on from the reference's answers
@@ -61,7 +76,7 @@ fn run() -> Result<(), String> {
         maker.go_on(&call, &states);
         (call, answer, states)
     };
-    talk::compare(&options, next, |asked| counts.add(asked))?;
+    talk::compare(options, next, |asked| counts.add(asked))?;
     counts.print();
     counts.nothing_impossible()?;
     if options.asks_for_all() {
@@ -70,9 +85,40 @@ fn run() -> Result<(), String> {
     Ok(())
 }
 
+/// The moves of tables, from dice of their own: the calls above stay as they are, whatever is moved here.
+fn compare_moves(options: &Options) -> Result<(), String> {
+    let mut dice = Dice::new(options.seed);
+    let mut reached = Lines::default();
+    let next = || {
+        let call = move_cases::next_move(&mut dice);
+        let (answer, output) = call.ask_reference();
+        (call, answer, output)
+    };
+    talk::compare(options, next, |asked| move_reached::count(&mut reached, &asked.call, asked.answer))?;
+    let wanted = move_reached::wanted();
+    reached.print("moves of tables", &wanted);
+    reached.are_possible(&wanted)?;
+    if options.asks_for_all() {
+        reached.are_all(&wanted)?;
+    }
+    Ok(())
+}
+
 // ------------------------------------------------------------------------------------------------
 // What is sent
 // ------------------------------------------------------------------------------------------------
+
+/// The parts are the table; the states or what stands in the output; the words or the record.
+fn request(kind: u8, rule: u32, parts: [&[u8]; 3], budget: u16) -> Vec<u8> {
+    let mut bytes = vec![kind];
+    bytes.extend(rule.to_le_bytes());
+    for part in parts {
+        bytes.extend((part.len() as u32).to_le_bytes());
+    }
+    bytes.extend(budget.to_le_bytes());
+    bytes.extend(parts.concat());
+    bytes
+}
 
 fn kind_number(kind: Kind) -> u8 {
     match kind {
@@ -84,16 +130,7 @@ fn kind_number(kind: Kind) -> u8 {
 
 impl talk::Call for Call {
     fn request(&self) -> Vec<u8> {
-        let mut bytes = vec![kind_number(self.kind)];
-        bytes.extend(self.rule.to_le_bytes());
-        for part in [&self.table, &self.states, &self.words] {
-            bytes.extend((part.len() as u32).to_le_bytes());
-        }
-        bytes.extend(self.budget.to_le_bytes());
-        for part in [&self.table, &self.states, &self.words] {
-            bytes.extend(part);
-        }
-        bytes
+        request(kind_number(self.kind), self.rule, [&self.table, &self.states, &self.words], self.budget)
     }
 
     fn tell(&self) -> String {
@@ -108,6 +145,16 @@ impl talk::Call for Call {
             hex(&self.words),
             self.budget,
         )
+    }
+}
+
+impl talk::Call for Move {
+    fn request(&self) -> Vec<u8> {
+        request(3 + self.to.version(), 0, [&self.table, &self.output, &[]], 0)
+    }
+
+    fn tell(&self) -> String {
+        format!("to version {}\ntable {}\noutput {}", self.to.version(), hex(&self.table), hex(&self.output))
     }
 }
 

@@ -178,20 +178,57 @@ pub fn add_formulas(dice: &mut Dice, table: &mut Vec<u8>, manners: &[Manner]) {
         room -= size(&formula);
         formulas.push((family.plan, formula));
     }
-    table[3] = 2;
-    write_nodes(dice, table, &formulas);
+    let order = if dice.percent(75) { Order::InTurn } else { Order::ByPlan };
+    write_nodes(dice, table, &formulas, order);
 }
 
-/// Puts the nodes behind the plans: in any order in which operands come later, those of several plans in turn; or plan by plan.
-fn write_nodes(dice: &mut Dice, table: &mut Vec<u8>, formulas: &[(usize, Formula)]) {
+/// The same with a node of kind 5 for each plan, which asks for what m asked for. One plan, if it is named by its place among those with
+/// children, has a formula with one node of another kind.
+pub fn add_counts(dice: &mut Dice, table: &mut Vec<u8>, order: Order, other: Option<usize>) {
+    let families = families(table);
+    let room = MOST_NODES + 1 - families.len();
+    let mut formulas = Vec::new();
+    for (at, family) in families.iter().enumerate() {
+        let count = Formula::AtLeast(family.byte_7);
+        formulas.push((family.plan, if other == Some(at) { over_counts(dice, family, count, room) } else { count }));
+    }
+    write_nodes(dice, table, &formulas, order);
+}
+
+/// A formula that finds room and has one node of another kind than 5: a child, or what is above one such count or two.
+fn over_counts(dice: &mut Dice, family: &Family, count: Formula, room: usize) -> Formula {
+    let [a, b] = [count.clone(), count].map(boxed);
+    match dice.below(if room < 3 { 1 } else { 5 }) {
+        0 => some_child(dice, family),
+        1 => Formula::Not(a),
+        2 => Formula::And(a, b),
+        3 => Formula::Or(a, b),
+        _ => Formula::Xor(a, b),
+    }
+}
+
+/// In which order the nodes of a table stand.
+#[derive(Clone, Copy)]
+pub enum Order {
+    /// Those of one plan, then those of the next.
+    ByPlan,
+    /// Any in which operands come later, those of several plans in turn.
+    InTurn,
+}
+
+/// Puts the nodes behind the plans of a table of version 1, which is of version 2 then.
+fn write_nodes(dice: &mut Dice, table: &mut Vec<u8>, formulas: &[(usize, Formula)], order: Order) {
+    table[3] = 2;
     table.extend([0; COUNT]);
     let start = table.len();
     // formulas that wait to be written, each with the place of the byte that has to name its first node
     let place = |plan: usize| HEADER + ENTRY * plan + 7;
     let mut waiting: Vec<(usize, &Formula)> = formulas.iter().rev().map(|(plan, formula)| (place(*plan), formula)).collect();
-    let in_turn = dice.percent(75);
     while !waiting.is_empty() {
-        let next = if in_turn { dice.below(waiting.len()) } else { waiting.len() - 1 };
+        let next = match order {
+            Order::InTurn => dice.below(waiting.len()),
+            Order::ByPlan => waiting.len() - 1,
+        };
         let (place, formula) = waiting.swap_remove(next);
         let node = table.len();
         table[place] = ((node - start) / NODE) as u8;

@@ -24,15 +24,13 @@ mod turns;
 
 use cases::{Kind, Maker};
 use dice::{hex, Dice};
-use program::{printed, refusal_line, Options};
+use program::{printed, refusal_line, Options, MOST_BYTES};
 use reference::Rule;
 use std::process::ExitCode;
 use tally::Lines;
 
 /// "`aprcheck` uses 2"
 const RULE: u32 = 2;
-/// "16: program input over 65,536 bytes"
-const MOST_BYTES: usize = 65_536;
 
 /// So many inputs are compared if it is not said; from so many on a run is held to what it must reach.
 const REACH_FROM: usize = 400;

@@ -473,3 +473,48 @@ uint64_t plain_check(uint32_t rule, const uint8_t *table, size_t table_length, c
     }
     return answer(0, (unsigned)steps, 0);
 }
+
+/* Checks 1 to 8, 22 and 9 of a table that has to be of this version. No rule reads it, so that any will do. */
+static uint64_t read_version(unsigned version, const uint8_t *t, size_t length, Plan *plans, Formulas *f) {
+    if (length >= 8 && !memcmp(t, "APT", 3) && u16(t + 3) != version) return 3;
+    return read_table(1, t, length, plans, f);
+}
+
+uint64_t plain_to_version_2(const uint8_t *table, size_t table_length, uint8_t *output, size_t output_length) {
+    Plan plans[MOST];
+    Formulas f;
+    uint64_t bad = read_version(1, table, table_length, plans, &f);
+    if (bad) return bad;
+    unsigned n = u16(table + 5), count = 0;
+    for (unsigned p = 0; p < n; p++) count += plans[p].children > 0;
+    size_t needed = table_length + 2 + 4 * (size_t)count;
+    if (output_length < needed) return 24;
+    memcpy(output, table, table_length);
+    output[3] = 2;
+    output[table_length] = (uint8_t)count;
+    output[table_length + 1] = (uint8_t)(count >> 8);
+    uint8_t *nodes = output + table_length + 2;
+    for (unsigned p = 0, i = 0; p < n; p++) {
+        if (!plans[p].children) continue;
+        const Node node = {AT_LEAST, plans[p].wait, 0, 0};
+        memcpy(nodes + 4 * i, &node, sizeof node);
+        output[8 + 8 * p + 7] = (uint8_t)i++;
+    }
+    return answer(0, (unsigned)needed, 0);
+}
+
+uint64_t plain_to_version_1(const uint8_t *table, size_t table_length, uint8_t *output, size_t output_length) {
+    Plan plans[MOST];
+    Formulas f;
+    uint64_t bad = read_version(2, table, table_length, plans, &f);
+    if (bad) return bad;
+    /* each node is used, so that there is one of another kind exactly where a formula begins with one */
+    if (f.count) return 23;
+    unsigned n = u16(table + 5);
+    size_t needed = 8 + 8 * (size_t)n;
+    if (output_length < needed) return 24;
+    memcpy(output, table, needed);
+    output[3] = 1;
+    for (unsigned p = 0; p < n; p++) output[8 + 8 * p + 7] = plans[p].wait;
+    return answer(0, (unsigned)needed, 0);
+}

@@ -18,12 +18,9 @@ mod tally;
 use dice::Dice;
 use held_cases::{next_call, Call};
 use held_reference::{self as reference, LEAST, MOST_MINUTES, NUMBERS, OPEN, REFERENCE};
-use program::{printed, refusal_line, Options};
+use program::{printed, refusal_line, Options, MOST_BYTES};
 use std::process::ExitCode;
 use tally::Lines;
-
-/// "16: program input over 65,536 bytes"
-const MOST_BYTES: usize = 65_536;
 
 /// So many texts are compared if it is not said; from so many on a run is held to what it must reach.
 const REACH_FROM: usize = 600;

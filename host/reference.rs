@@ -1,11 +1,11 @@
 //! A slow and plain implementation of document 01, "Requirements and rules for the build", and of
-//! requests (i), (ii) and (v) of document 02, "Bodies for the bad turn", "A retried step should not
-//! sink its parent" and "Wait for this or both of those".
+//! requests (i), (ii), (v) and (vi) of document 02, "Bodies for the bad turn", "A retried step should not
+//! sink its parent", "Wait for this or both of those" and "Moving the library of tables".
 //!
 //! It is written to be read beside the documents: in the order of document 01, in their words, one
 //! small function for each rule. A sentence in quotation marks is document 01's own; behind "02 (i):",
-//! "02 (ii):" or "02 (v):" it is that request's. Nothing here is clever; where a rule can be looked up
-//! again by walking over the whole table, it is.
+//! "02 (ii):", "02 (v):" or "02 (vi):" it is that request's. Nothing here is clever; where a rule can be
+//! looked up again by walking over the whole table, it is.
 //!
 //! Tests, among them the brute-force search over all picks, are in self_test.rs.
 
@@ -925,15 +925,22 @@ fn read_rule(number: u32) -> Result<Rule, Answer> {
     }
 }
 
-/// The checks 1 to 8, 22 and 9, "in this order, one number over the whole table or call before the next".
+/// A table of either version.
 pub fn read_table(table: &[u8]) -> Result<Vec<Plan>, Answer> {
+    read_table_of(&[1, 2], table)
+}
+
+/// The checks 1 to 8, 22 and 9, "in this order, one number over the whole table or call before the next", of a
+/// table that has to be of one of these versions.
+fn read_table_of(versions: &[usize], table: &[u8]) -> Result<Vec<Plan>, Answer> {
     // "1: table under 8 bytes"
     refuse_if(table.len() < HEADER_BYTES, 1)?;
     // "2: wrong mark"
     refuse_if(table[0..3] != *b"APT", 2)?;
-    // "3: version not 1"; 02 (v): "3 allows versions 1 and 2"
+    // "3: version not 1"; 02 (v): "3 allows versions 1 and 2"; 02 (vi): "3 also for a table not of the version
+    //  moved from"
     let version = number_of_16_bits(table, 3);
-    refuse_if(version != 1 && version != 2, 3)?;
+    refuse_if(!versions.contains(&version), 3)?;
     // "4: n outside 1..256, or header byte 7 not 0"
     let n = number_of_16_bits(table, 5);
     refuse_if(!(1..=MOST_PLANS).contains(&n) || table[7] != 0, 4)?;
@@ -1165,7 +1172,64 @@ fn compare_steps(rule: Rule, plans: &[Plan], record: &[u8], steps: usize) -> Che
 }
 
 // ------------------------------------------------------------------------------------------------
-// The calls. "No refusal changes lent bytes": the states are written after the last check only.
+// Moving tables
+// ------------------------------------------------------------------------------------------------
+
+/// The plans that wait for something: those with children, in plan order.
+fn parents(plans: &[Plan]) -> Vec<usize> {
+    (0..plans.len()).filter(|&p| !plans[p].children.is_empty()).collect()
+}
+
+/// 02 (vi): "nodes stand in plan order": where one plan has a higher number than another, so has its first node.
+pub fn nodes_stand_in_plan_order(plans: &[Plan]) -> bool {
+    parents(plans).windows(2).all(|pair| plans[pair[0]].byte_7 < plans[pair[1]].byte_7)
+}
+
+/// m, or what a formula of one node of kind 5 asks for. That of a leaf is 0.
+fn number_waited_for(plan: &Plan) -> u8 {
+    match plan.wait_for {
+        Formula::AtLeast(number) => number as u8,
+        _ => unreachable!("every node is of kind 5: 23 went before"),
+    }
+}
+
+/// A header and plans as they stand in a table, each with a byte 7 of its own.
+fn print_plans(version: u16, plans: &[Plan], byte_7: impl Fn(usize) -> u8) -> Vec<u8> {
+    let mut table = b"APT".to_vec();
+    table.extend(version.to_le_bytes());
+    table.extend((plans.len() as u16).to_le_bytes());
+    table.push(0);
+    for (p, plan) in plans.iter().enumerate() {
+        table.extend((plan.parent.unwrap_or(NO_PARENT) as u16).to_le_bytes());
+        table.extend([plan.body, plan.flags, plan.present, plan.manual, plan.overridable, byte_7(p)]);
+    }
+    table
+}
+
+/// 02 (vi): "Move a table from 1 to 2, one kind-5 node for each plan with children in plan order"
+fn moved_to_version_2(table: &[u8]) -> Result<Vec<u8>, Answer> {
+    let plans = read_table_of(&[1], table)?;
+    let parents = parents(&plans);
+    // a leaf has no node, and its byte 7 is 0 in both versions
+    let node_of = |p: usize| parents.iter().position(|&parent| parent == p).unwrap_or(0);
+    let mut moved = print_plans(2, &plans, |p| node_of(p) as u8);
+    moved.extend((parents.len() as u16).to_le_bytes());
+    for &parent in &parents {
+        moved.extend([AT_LEAST, number_waited_for(&plans[parent]), 0, 0]);
+    }
+    Ok(moved)
+}
+
+/// 02 (vi): "and from 2 to 1 exactly when every node is of kind 5"
+fn moved_to_version_1(table: &[u8]) -> Result<Vec<u8>, Answer> {
+    let plans = read_table_of(&[2], table)?;
+    // 02 (vi): "23, a node of another kind, after the table checks"
+    refuse_if(read_nodes(table, plans.len()).iter().any(|node| node.kind != AT_LEAST), 23)?;
+    Ok(print_plans(1, &plans, |p| number_waited_for(&plans[p])))
+}
+
+// ------------------------------------------------------------------------------------------------
+// The calls. "No refusal changes lent bytes": states and output are written after the last check only.
 // ------------------------------------------------------------------------------------------------
 
 /// One synchronous step: "The step and the run write the new states over the states handed in."
@@ -1230,6 +1294,23 @@ fn try_check(rule: u32, table: &[u8], record: &[u8]) -> Result<Answer, Answer> {
     let steps = read_record(record, plans.len())?;
     compare_steps(rule, &plans, record, steps)?;
     Ok(answer(DONE, 0, steps))
+}
+
+/// Moving a table of version 1: the answer's step is the number of bytes.
+pub fn to_version_2(table: &[u8], output: &mut [u8]) -> Answer {
+    moved_to_version_2(table).and_then(|moved| write_moved(&moved, output)).unwrap_or_else(|refusal| refusal)
+}
+
+/// Moving a table of version 2, likewise.
+pub fn to_version_1(table: &[u8], output: &mut [u8]) -> Answer {
+    moved_to_version_1(table).and_then(|moved| write_moved(&moved, output)).unwrap_or_else(|refusal| refusal)
+}
+
+/// 02 (vi): "24, output buffer too short, after that. ... output bytes past the result stay as they were."
+fn write_moved(moved: &[u8], output: &mut [u8]) -> Result<Answer, Answer> {
+    refuse_if(output.len() < moved.len(), 24)?;
+    output[..moved.len()].copy_from_slice(moved);
+    Ok(answer(DONE, 0, moved.len()))
 }
 
 /// The sub tree question: "a part of the caller's own state slice, from the plan through its last

@@ -2,7 +2,10 @@
 
 use crate::cases;
 use crate::dice::Dice;
+use crate::formula_cases::Order;
+use crate::move_cases::{self, To, AMPLE};
 use crate::reference::{self, answer, Before, Plan, Rule};
+use crate::same_steps::Pair;
 
 // ------------------------------------------------------------------------------------------------
 // "Small protocols to try"
@@ -1041,4 +1044,182 @@ fn eight_goes_before_22_and_22_before_9() {
     assert_eq!(refusal(&formula_table(0, 3, &[0, 2], &whole)), answer(22, 2, 0));
     // and of version 1 a wait number is 9, whatever it would be as a node's number
     assert_eq!(refusal(&t1_with(&[(place(0, 7), 3)])), answer(9, 0, 0));
+}
+
+// ------------------------------------------------------------------------------------------------
+// Request (vi) of document 02: moving tables
+// ------------------------------------------------------------------------------------------------
+
+/// The moved table; bytes past it stay as they were.
+fn moved(to: To, table: &[u8]) -> Vec<u8> {
+    let before: Vec<u8> = (0..AMPLE).map(|at| at as u8 ^ 0x5A).collect();
+    let mut output = before.clone();
+    let written = to.by_reference(table, &mut output);
+    let length = (written >> 32) as usize;
+    assert_eq!(written, answer(0, 0, length), "{table:?}");
+    assert_eq!(output[length..], before[length..]);
+    output.truncate(length);
+    output
+}
+
+/// Into so much room: a refusal changes no byte of the output.
+fn expect_unmoved(to: To, table: &[u8], room: usize, expected: u64) {
+    let mut output = vec![0xA5; room];
+    assert_eq!(to.by_reference(table, &mut output), expected, "{table:?} into {room} bytes");
+    assert_eq!(output, vec![0xA5; room]);
+}
+
+/// Plan 0 has the children 1 and 5, plan 1 has 2 and 4, plan 2 has 3; all of them but plan 0 are named, and bytes 7 of plans 0, 1 and 2 are
+/// these.
+fn six_plans(version: u8, bytes_7: [u8; 3]) -> Vec<u8> {
+    let [first, second, third] = bytes_7;
+    let header = [b'A', b'P', b'T', version, 0, 6, 0, 0];
+    let parents = [[255, 255, 4, 0, 32, 32, 0, first], [0, 0, 1, 7, 33, 0, 1, second], [1, 0, 3, 5, 0, 0, 0, third]];
+    let leaves = [[2, 0, 0, 4, 63, 1, 2, 0], [1, 0, 0, 4, 0, 0, 0, 0], [0, 0, 0, 4, 0, 0, 0, 0]];
+    [&header, parents.as_flattened(), leaves.as_flattened()].concat()
+}
+
+/// The place of byte `at` of node i behind these.
+fn place_of_node(i: usize, at: usize) -> usize {
+    place(6, 2) + 4 * i + at
+}
+
+/// Written by hand.
+#[test]
+fn tables_moved() {
+    let t1_in_2 = with_nodes(t1_with(&[(3, 2), (place(0, 7), 0)]), &[[5, 2, 0, 0]]);
+    assert_eq!(moved(To::Version2, &T1), t1_in_2);
+    assert_eq!(moved(To::Version1, &t1_in_2), T1);
+    let in_1 = six_plans(1, [2, 0, 1]);
+    let in_2 = with_nodes(six_plans(2, [0, 1, 2]), &[[5, 2, 0, 0], [5, 0, 0, 0], [5, 1, 0, 0]]);
+    assert_eq!(moved(To::Version2, &in_1), in_2);
+    assert_eq!(moved(To::Version1, &in_2), in_1);
+    let in_another_order = with_nodes(six_plans(2, [1, 2, 0]), &[[5, 1, 0, 0], [5, 2, 0, 0], [5, 0, 0, 0]]);
+    assert_eq!(moved(To::Version1, &in_another_order), in_1);
+    // one plan has no node, and 256 plans have 255 at most
+    let alone = b"APT\x01\x00\x01\x00\x00\xFF\xFF\x00\x00\x00\x00\x00\x00";
+    assert_eq!(moved(To::Version2, alone), with_nodes(changed(alone, &[(3, 2)]), &[]));
+    let chain = moved(To::Version2, &wide_table(256, 1));
+    assert_eq!(chain.len(), 8 + 8 * 256 + 2 + 4 * 255);
+    assert_eq!(chain[place(254, 7)], 254);
+    assert_eq!(chain[place(255, 7)], 0);
+    assert_eq!(moved(To::Version1, &chain), wide_table(256, 1));
+}
+
+#[test]
+fn moves_refused_for_the_table() {
+    let in_1 = six_plans(1, [2, 0, 1]);
+    let in_2 = with_nodes(six_plans(2, [0, 1, 2]), &[[5, 2, 0, 0], [5, 0, 0, 0], [5, 1, 0, 0]]);
+    for (to, table, other) in [(To::Version2, &in_1, &in_2), (To::Version1, &in_2, &in_1)] {
+        let rows: [(&[(usize, u8)], u64); 8] = [
+            (&[(0, 0x42)], answer(2, 0, 0)),
+            (&[(4, 1)], answer(3, 0, 0)),
+            (&[(3, 3)], answer(3, 0, 0)),
+            (&[(7, 1)], answer(4, 0, 0)),
+            (&[(5, 7)], answer(5, 0, 0)),
+            (&[(place(3, 0), 3)], answer(6, 3, 0)),
+            (&[(place(4, 3), 8)], answer(7, 4, 0)),
+            (&[(place(5, 7), 1)], answer(8, 5, 0)),
+        ];
+        for room in [0, 40, AMPLE] {
+            expect_unmoved(to, &table[..7], room, answer(1, 0, 0));
+            for (changes, expected) in rows {
+                expect_unmoved(to, &changed(table, changes), room, expected);
+            }
+            // a table of the other version, also where more is wrong with it
+            expect_unmoved(to, other, room, answer(3, 0, 0));
+            expect_unmoved(to, &changed(other, &[(7, 1)]), room, answer(3, 0, 0));
+            expect_unmoved(to, &other[..8], room, answer(3, 0, 0));
+        }
+    }
+    for room in [0, 40, AMPLE] {
+        expect_unmoved(To::Version2, &changed(&in_1, &[(place(2, 7), 2)]), room, answer(9, 2, 0));
+        expect_unmoved(To::Version1, &changed(&in_2, &[(place_of_node(0, 1), 3)]), room, answer(9, 0, 0));
+        expect_unmoved(To::Version1, &changed(&in_2, &[(place(1, 7), 2)]), room, answer(22, 1, 0));
+        expect_unmoved(To::Version1, &changed(&in_2, &[(place(1, 7), 3)]), room, answer(22, 0, 0));
+    }
+}
+
+#[test]
+fn moves_refused_for_a_node_or_the_output() {
+    let counts = [[5, 2, 0, 0], [5, 0, 0, 0], [5, 1, 0, 0]];
+    let with_other = |i: usize, node: [u8; 4]| {
+        let mut nodes = counts;
+        nodes[i] = node;
+        with_nodes(six_plans(2, [0, 1, 2]), &nodes)
+    };
+    // 23 with any room, and 9 before it
+    for room in [0, 55, 56, AMPLE] {
+        for i in 0..3 {
+            expect_unmoved(To::Version1, &with_other(i, CHILD_0), room, answer(23, 0, 0));
+        }
+        for kind in 1..5 {
+            let b = if kind == reference::NOT { 0 } else { 4 };
+            let nodes = [[kind, 3, b, 0], [5, 0, 0, 0], [5, 1, 0, 0], [5, 2, 0, 0], [5, 1, 0, 0]];
+            let used = if kind == reference::NOT { 4 } else { 5 };
+            expect_unmoved(To::Version1, &with_nodes(six_plans(2, [0, 1, 2]), &nodes[..used]), room, answer(23, 0, 0));
+        }
+        let too_many_besides = changed(&with_other(0, CHILD_0), &[(place_of_node(2, 1), 2)]);
+        expect_unmoved(To::Version1, &too_many_besides, room, answer(9, 2, 0));
+    }
+    // 24 up to a byte
+    let in_1 = six_plans(1, [2, 0, 1]);
+    let in_2 = with_nodes(six_plans(2, [0, 1, 2]), &counts);
+    for (to, table, moved) in [(To::Version2, &in_1, &in_2), (To::Version1, &in_2, &in_1)] {
+        for room in 0..moved.len() {
+            expect_unmoved(to, table, room, answer(24, 0, 0));
+        }
+        let mut just_enough = vec![0; moved.len()];
+        assert_eq!(to.by_reference(table, &mut just_enough), answer(0, 0, moved.len()));
+        assert_eq!(just_enough, *moved);
+    }
+}
+
+/// "There and back gives the same bytes; back and there gives the same bytes exactly when nodes stand in plan order"
+#[test]
+fn there_and_back() {
+    let mut dice = Dice::new(6);
+    let mut by_order = [0; 2];
+    for _ in 0..3_000 {
+        let in_1 = move_cases::of_version_1(&mut dice);
+        assert_eq!(moved(To::Version1, &moved(To::Version2, &in_1)), in_1);
+        let order = dice.one_of(&[Order::ByPlan, Order::InTurn]);
+        let in_2 = move_cases::of_counts(&mut dice, order);
+        let in_order = reference::nodes_stand_in_plan_order(&good_plans(&in_2));
+        assert_eq!(moved(To::Version2, &moved(To::Version1, &in_2)) == in_2, in_order);
+        by_order[usize::from(in_order)] += 1;
+    }
+    println!("nodes not in plan order {}, in plan order {}", by_order[0], by_order[1]);
+    assert!(by_order.into_iter().all(|count| count > 500));
+}
+
+fn good_plans(table: &[u8]) -> Vec<Plan> {
+    reference::read_table(table).unwrap_or_else(|answer| panic!("refused: {answer:x}"))
+}
+
+/// "and always the same steps. Demand 3's verdict on any record is the same under the moved table."
+#[test]
+fn moved_tables_make_the_same_steps_and_judge_records_alike() {
+    let mut dice = Dice::new(7);
+    let (mut decided, mut verdicts) = (0, [0; 2]);
+    for turn in 0..2_000 {
+        let to = [To::Version1, To::Version2][turn % 2];
+        let table = match to {
+            To::Version1 => move_cases::of_counts(&mut dice, Order::InTurn),
+            To::Version2 => move_cases::of_version_1(&mut dice),
+        };
+        let other = moved(to, &table);
+        let pair = Pair::of(&table, &other);
+        for _ in 0..10 {
+            decided += usize::from(pair.step(&mut dice).unwrap_or_else(|apart| panic!("{table:?}\n{apart}")));
+        }
+        for rule in [1, 2] {
+            let record = cases::any_record(&mut dice, &good_plans(&table));
+            let verdict = reference::check(rule, &table, &record);
+            assert_eq!(reference::check(rule, &other, &record), verdict);
+            verdicts[usize::from(verdict & 0xFFFF != 0)] += 1;
+        }
+    }
+    println!("steps that a wait-for decides: {decided}; records accepted {}, refused {}", verdicts[0], verdicts[1]);
+    assert!(decided > 500 && verdicts.into_iter().all(|count| count > 500));
 }

@@ -51,6 +51,12 @@ impl Options {
         Ok(options)
     }
 
+    /// For a second comparison, which makes one call where the first makes so many.
+    #[allow(dead_code)] // held.rs makes one comparison only.
+    pub fn one_in(&self, many: u64) -> Options {
+        Options { child: self.child.clone(), calls: self.calls / many, reach_from: self.reach_from / many, ..*self }
+    }
+
     /// Whether the run is held to what it must reach; says so where it is not.
     pub fn asks_for_all(&self) -> bool {
         let asks = self.calls >= self.reach_from;

@@ -1,10 +1,10 @@
 /*
  * asbru.h: the rules of Asbru plans, for a host program in C or C++.
  *
- * Three functions over byte buffers that the caller owns: one step, a run to rest, and the checker of treatment records. Three more make
- * what a word says of a pattern from how long the pattern has held. All are written in Rattle and proved (crate `tablet`). Link with
- * libasbru.a, which `make` writes for x86-64. docs/RULES.md has the rules in words, in numbered paragraphs; asbru_text.h, which is not
- * proved, has a text for each state, body, kind of node and number.
+ * Three functions over byte buffers that the caller owns: one step, a run to rest, and the checker of treatment records. Two move a table
+ * from one version to the other, and three make what a word says of a pattern from how long the pattern has held. All are written in Rattle
+ * and proved (crate `tablet`). Link with libasbru.a, which `make` writes for x86-64. docs/RULES.md has the rules in words, in numbered
+ * paragraphs; asbru_text.h, which is not proved, has a text for each state, body, kind of node and number.
  *
  *
  * RULES 1 AND 2
@@ -22,8 +22,9 @@
  * Each buffer of bytes is a pointer followed by its length in bytes; samples are a pointer followed by their number, and an annotation is a
  * pointer to its ASBRU_BOUNDS numbers. The pointer may be NULL where the length is 0. Any bytes, numbers and lengths may be handed in: what
  * is wrong with them is answered by number and place. The caller keeps two promises that no code can check: what it hands in is there
- * (readable, and `states` and the annotation to be normalised writable), and `states` overlaps no other buffer of the call. Numbers are
- * little-endian. n is the number of plans, 1 to 256; plans are numbered from 0, parents before their children.
+ * (readable, and `states`, `output` and the annotation to be normalised writable), and `states` and `output` overlap no other buffer of the
+ * call: a table cannot be moved onto itself. Numbers are little-endian. n is the number of plans, 1 to 256; plans are numbered from 0,
+ * parents before their children.
  *
  * Table: 8 + 8n bytes in version 1, and in version 2 the nodes behind them: 8 + 8n + 2 + 4k bytes.
  *   0-2  the mark 'A' 'P' 'T'
@@ -70,6 +71,9 @@
  *   0-7  a header as the table's, with the mark 'A' 'P' 'R' and the same n; its version is ASBRU_FORMAT, whatever the table's
  *   then for each step 4n bytes of words, with pick bits 0 (ASBRU_PICK_BITS), and the n states after that step. Before step 1 all
  *   plans are Inactive.
+ *
+ * Output: room for the table that a move writes, 8 + 8n bytes in version 1, 8 + 8n + 2 + 4k in version 2, where k is the number of plans
+ *   with children. ASBRU_MOST_MOVED bytes are enough for every table. There may be more room than the table takes: bytes past it stay.
  *
  *
  * WHAT WORDS DO, FOR THE AUTHOR OF A HOST
@@ -136,24 +140,37 @@
  * Rejects its plan.
  *
  *
+ * MOVING TABLES
+ *
+ * asbru_to_version_2 moves every table of version 1 to version 2, asbru_to_version_1 one of version 2 to version 1 exactly where all its
+ * nodes are ASBRU_AT_LEAST. The header gets the other version. Plans stay as they are, but for byte 7 of a plan with children: in version 2
+ * it is the number of the plan's node, an ASBRU_AT_LEAST whose a is m, and the nodes stand in the order of their plans; in version 1 it is
+ * the a of its node.
+ *   What is written passes all checks of a table and means the same: every step by either rule is the same under both tables, and every
+ * record, which need not be touched, gets the same answer of asbru_check. Moved to version 2 and back a table has its old bytes again.
+ * Moved to version 1 and back it has them exactly where its nodes stood in the order of their plans, and else the nodes are put into that
+ * order.
+ *
+ *
  * ANSWERS
  *
  * An answer is number + plan * 2^16 + step * 2^32; asbru_number, asbru_plan and asbru_step_of take it apart. ASBRU_DONE is success, and
  * each function below says what plan and step then are. Any other number of `enum asbru_answer` is a refusal. Checks are made in the order
  * of the numbers, but 17 first and 22 between 8 and 9, each over all plans before the next (asbru_check: 17, 1 to 8, 22, 9, 13, 14, then
- * step by step 12 before 15; asbru_pattern 18 to 20; asbru_normalise 18, 21, 26), so a refusal is the first thing wrong. `plan` is the
- * lowest plan concerned, of 22 the lowest node; `step` counts from 1; both are 0 where the list names none.
+ * step by step 12 before 15; a move: 1 to 8, 22, 9, 23, 24; asbru_pattern 18 to 20; asbru_normalise 18, 21, 26), so a refusal is the first
+ * thing wrong. `plan` is the lowest plan concerned, of 22 the lowest node; `step` counts from 1; both are 0 where the list names none.
  *
  *
  * WHAT A CALL TOUCHES
  *
- * `states` is all that is written, by asbru_step and asbru_rest, and the annotation by asbru_normalise, and only where the answer's number
- * is ASBRU_DONE: after a refusal they are as they were. Nothing is allocated, nothing is kept from one call to the next, and nothing global
- * is read or written, so calls from several threads are independent as long as no thread writes a buffer that another call uses: tables may
- * be shared, states may not. Every call returns. A call of the first three functions takes about 26 KiB of stack, whatever it is handed,
- * and in version 2 up to 16 KiB more, the deeper a formula goes (256 nodes at most). Its time grows with n and k, of asbru_rest with both
- * for each step taken (at most 65535), of asbru_check with the record's length, of asbru_pattern with the number of samples. The calls
- * about patterns take less than 1 KiB.
+ * `states` is all that is written, by asbru_step and asbru_rest, `output` by the moves, and the annotation by asbru_normalise, and only
+ * where the answer's number is ASBRU_DONE: after a refusal they are as they were. Of `output` the bytes of the table are written, which the
+ * answer counts, and none past them. Nothing is allocated, nothing is kept from one call to the next, and nothing global is read or
+ * written, so calls from several threads are independent as long as no thread writes a buffer that another call uses: tables may be shared,
+ * states may not. Every call returns. A call of the first three functions takes about 26 KiB of stack, whatever it is handed, and in
+ * version 2 up to 16 KiB more, the deeper a formula goes (256 nodes at most). Its time grows with n and k, of asbru_rest with both for each
+ * step taken (at most 65535), of asbru_check with the record's length, of asbru_pattern with the number of samples. A move takes about 6
+ * KiB, the calls about patterns less than 1 KiB.
  */
 #ifndef ASBRU_H
 #define ASBRU_H
@@ -166,7 +183,7 @@ extern "C" {
 #endif
 
 /* Raised by one whenever a function, a format, a number or a rule changes: CHANGELOG.md says how. */
-#define ASBRU_VERSION 5
+#define ASBRU_VERSION 6
 
 /* Limits, and the sizes of what buffers hold. */
 enum asbru_size {
@@ -180,6 +197,7 @@ enum asbru_size {
     ASBRU_MOST_NODES = 256,
     ASBRU_MOST_CHILDREN = 64, /* of one plan */
     ASBRU_MOST_STEPS = 65535, /* of a record, and the largest budget */
+    ASBRU_MOST_MOVED = 3078, /* bytes: of a table that a move writes, 8 + 8 * 256 + 2 + 4 * 255 */
     ASBRU_MOST_SAMPLES = 1024, /* of a history */
     ASBRU_MOST_MINUTES = 1000000000, /* before and after minute 0 */
     ASBRU_NO_PARENT = 65535
@@ -299,7 +317,7 @@ enum asbru_answer {
     ASBRU_REFUSED_TABLE_SHORT = 1,
     /* the table's mark is wrong */
     ASBRU_REFUSED_TABLE_MARK = 2,
-    /* the table's version is neither 1 nor 2 */
+    /* the table's version is neither 1 nor 2; of a move, it is not the one moved from */
     ASBRU_REFUSED_TABLE_VERSION = 3,
     /* n is outside 1 to 256, or byte 7 of the table is not 0 */
     ASBRU_REFUSED_TABLE_COUNT = 4,
@@ -331,7 +349,7 @@ enum asbru_answer {
     /* [plan, step] no picks lead to the states shown: this plan is the lowest p of which no picks explain plans 0 to p, in the first step
        where that is so; only of asbru_check */
     ASBRU_REFUSED_UNEXPLAINED = 15,
-    /* the input is over 65536 bytes: of the programs `aprcheck` and `aptime`, never of these functions */
+    /* the input is over 65536 bytes: of the programs `aprcheck`, `aptime` and `aptmove`, never of these functions */
     ASBRU_REFUSED_INPUT_LONG = 16,
     /* the rule number is neither 1 nor 2; looked for before all else */
     ASBRU_REFUSED_RULE_NUMBER = 17,
@@ -349,6 +367,10 @@ enum asbru_answer {
        once. Where no node is so, the lowest ASBRU_CHILD whose rank is not below the number of children of the plan in whose formula it
        stands */
     ASBRU_REFUSED_FORMULA = 22,
+    /* a node of the table, which passes all checks above, is of another kind than ASBRU_AT_LEAST; only of asbru_to_version_1 */
+    ASBRU_REFUSED_NODE_KIND = 23,
+    /* the output has less room than the table to be written takes; only of a move */
+    ASBRU_REFUSED_OUTPUT_SHORT = 24,
     /* a number of the normal form is out of range */
     ASBRU_REFUSED_NORMAL_RANGE = 26
 };
@@ -374,6 +396,17 @@ uint64_t asbru_rest(uint32_t rule, const uint8_t *table, size_t table_length, ui
  * ASBRU_REFUSED_RECORD_HEADER, exactly where none of the numbers 1 to 9 and 22 is given.
  */
 uint64_t asbru_check(uint32_t rule, const uint8_t *table, size_t table_length, const uint8_t *record, size_t record_length);
+
+/*
+ * Writes a table of version 1, as one of version 2, at the start of `output`. ASBRU_DONE, with plan 0: step is the number of bytes written.
+ */
+uint64_t asbru_to_version_2(const uint8_t *table, size_t table_length, uint8_t *output, size_t output_length);
+
+/*
+ * Writes a table of version 2 whose nodes are all ASBRU_AT_LEAST, as one of version 1, at the start of `output`. ASBRU_DONE, with plan 0:
+ * step is the number of bytes written.
+ */
+uint64_t asbru_to_version_1(const uint8_t *table, size_t table_length, uint8_t *output, size_t output_length);
 
 /*
  * Whether a pattern's history satisfies a time annotation at the minute of asking, or still can. ASBRU_DONE, with step 0: plan is
@@ -411,7 +444,7 @@ static inline unsigned asbru_plan(uint64_t answer) {
     return (unsigned)(answer >> 16 & 0xFFFF);
 }
 
-/* The step, or number of steps, of an answer. */
+/* The step, or number of steps, of an answer; of a move the number of bytes written. */
 static inline unsigned asbru_step_of(uint64_t answer) {
     return (unsigned)(answer >> 32);
 }

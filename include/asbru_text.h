@@ -58,7 +58,7 @@ static inline const char *asbru_number_text(unsigned number) {
     case ASBRU_DONE: return "done";
     case ASBRU_REFUSED_TABLE_SHORT: return "the table is shorter than its header of 8 bytes";
     case ASBRU_REFUSED_TABLE_MARK: return "the table does not begin with its mark APT";
-    case ASBRU_REFUSED_TABLE_VERSION: return "the table's version is neither 1 nor 2";
+    case ASBRU_REFUSED_TABLE_VERSION: return "the table's version is neither 1 nor 2, or not the one that it is to be moved from";
     case ASBRU_REFUSED_TABLE_COUNT: return "the table does not count 1 to 256 plans, or byte 7 of its header is not 0";
     case ASBRU_REFUSED_TABLE_LENGTH: return "the table's length does not fit the plans and nodes that it counts";
     case ASBRU_REFUSED_PARENT: return "its parent is neither the plan before it nor above that one, or it is a 65th child";
@@ -83,6 +83,8 @@ static inline const char *asbru_number_text(unsigned number) {
     case ASBRU_REFUSED_FORMULA:
         return "it has a byte without a meaning, an operand that is not above it or not there, another number of uses than one, or a rank "
                "without a child; or, where 0 is named, the table may have over 256 nodes or a formula whose first node is not there";
+    case ASBRU_REFUSED_NODE_KIND: return "a node of the table is of another kind than 5, so that it cannot be moved to version 1";
+    case ASBRU_REFUSED_OUTPUT_SHORT: return "the output has less room than what is to be written takes";
     case ASBRU_REFUSED_NORMAL_RANGE: return "a number of the normal form is out of range";
     default: return "no number of this library";
     }
