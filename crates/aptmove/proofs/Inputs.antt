@@ -30,10 +30,10 @@ module _ (input : List ℕ) where
   too-long l = stop _ _ _ (lt-ltb _ _ l)
 
   -- what the version decides
-  abbrev checkIf : Bool → Outcome
+  abbrev pub checkIf : Bool → Outcome
   checkIf first = cond first (checkTo2 input) (checkTo1 input)
 
-  abbrev movedIf : Bool → List ℕ
+  abbrev pub movedIf : Bool → List ℕ
   movedIf first = cond first (inVersion2 input) (inVersion1 input)
 
   pub by-version :

@@ -14,6 +14,7 @@ use Rattle.rules.specs.declared.Refusal.{Refusal}
 use Rattle.rules.specs.declared.Refusal.the-variants.{OutputShort}
 use Rattle.rules.specs.declared.Outcome.{Outcome}
 use Rattle.rules.specs.declared.Outcome.the-variants.{Done, Refused}
+use Rattle.rules.specs.declared.Verdict.{Verdict}
 use Rattle.rules.specs.declared.Verdict.the-variants as verdict
 use Rattle.rules.proofs.Outcomes.{first-done, then-done, if-done, pass-last, stop-last}
 use Rattle.rules.proofs.Tree.{passes, tree}
@@ -46,6 +47,13 @@ moved written output after end room put =
     let e = pass-last _ OutputShort (le-ltb _ _ room) in
     let place : end ≡ length written = omega (arith, put .place) in
     (rw (e, moveAnswer) (ap verdict.Accepted place), rw (e, moveOutput) (whole put ∙ ap (λ (k : ℕ). written ++ drop k output) place))
+
+-- of the same checks and the same table it is the same
+pub same-move :
+    {check check′ : Outcome} {written written′ after : List ℕ} {answer : Verdict} (output : List ℕ) → check′ ≡ check → written′ ≡ written
+    → (answer ≡ moveAnswer check written output) × (after ≡ moveOutput check written output)
+    → (answer ≡ moveAnswer check′ written′ output) × (after ≡ moveOutput check′ written′ output)
+same-move output e f h = rw (e, f) h
 
 -- a table that is moved from a version passes its own checks and is of that version,
 pub passed : (t : List ℕ) (from : ℕ) → checkFrom t from ≡ Done → tableCheck t ≡ Done

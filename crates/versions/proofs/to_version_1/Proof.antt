@@ -1,15 +1,13 @@
 -- `to_version_1` meets its contract: by the checks before 24. Assumes nothing.
 use native.Mathlib.Omega.{arith}
-use mathlib.Core.Path.{_≡_, sym, ap, _∙_, subst}
-use mathlib.Core.List.{List}
+use mathlib.Core.Path.{_≡_, refl, sym, _∙_, subst}
 use Prim.Native.Nat.{ℕ}
 use borrow.Author.Needs.{needs}
 use denote.Ref.{now}
-use Rattle.rules.specs.declared.Outcome.{Outcome}
 use Rattle.rules.specs.declared.Outcome.the-variants.{Done}
 use Rattle.versions.specs.Room.{HasPlans}
-use Rattle.versions.specs.Versions.{inVersion1, checkTo1, moveAnswer, moveOutput}
-use Rattle.versions.proofs.Moves.{refused, has-plans, from-second}
+use Rattle.versions.specs.Versions.{checkTo1}
+use Rattle.versions.proofs.Moves.{refused, same-move, has-plans, from-second}
 use Rattle.versions.proofs.to_version_1.Statement.{statement}
 use Rattle.versions.proofs.to_version_1.Tie as tie
 
@@ -33,15 +31,7 @@ returns c =
     refused _ _ _ _ (sym (checked .check-to-1 .ensures) ∙ c .before .why .given .1)
 
 returns-2 : tie.Need-returns-2
-returns-2 c =
-    let moved = c .before .before in
-    let told = moved .before .before .before in
-    let start = told .before .before .before .before .before in
-    let written : List ℕ = inVersion1 (now (start .args .table)) in
-    let done = sym (passed told) in (
-      moved .move-to-1 .ensures .0 ∙ ap (λ (o : Outcome). moveAnswer o written (now (start .args .output))) done,
-      moved .move-to-1 .ensures .1 ∙ ap (λ (o : Outcome). moveOutput o written (now (start .args .output))) done,
-    )
+returns-2 c = let moved = c .before .before in same-move _ (passed (moved .before .before .before)) refl (moved .move-to-1 .ensures)
 
 pub to-version-1-spec : {M : Type 1} → statement M
 to-version-1-spec =
