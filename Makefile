@@ -1,4 +1,4 @@
-# make            proves and builds: the archive target/libasbru.a, the programs aprcheck and aptime, and what ./check runs
+# make            proves and builds: the archive target/libasbru.a, the programs aprcheck, aptmove and aptime, and what ./check runs
 # make check      the examples and the command's own tests: seconds, once all is built
 # make install    the header, its companion, the archive and asbru.pc, under PREFIX (and DESTDIR)
 # make test       the gate: everything proved from nothing, every must-fail edit, all hosts
@@ -13,19 +13,20 @@ endif
 compile := . host/machine; $$c -std=c11 $$flags
 
 .PHONY: all judge check install test
-all: judge target/made/aptime
+all: judge target/made/aptmove target/made/aptime
 # what ./check runs
 judge: target/libasbru.a target/made/aprcheck target/host/check
 
 # `rt` proves what has changed: its line for each crate is shown, and all that it says where it fails
-target/libasbru.a target/made/aprcheck target/made/aptime: $(proved)
+programs := target/made/aprcheck target/made/aptmove target/made/aptime
+target/libasbru.a $(programs): $(proved)
 	@mkdir -p target/made
 	@$(rt) 2>&1 | tee target/made/log | { grep '^rt: ' || true; } || { cat target/made/log >&2; exit 1; }
 	@$(made)
 target/libasbru.a: rt = rt staticlib tablet
 target/libasbru.a: made = cp target/staticlib/libtablet.a $@
-target/made/aprcheck target/made/aptime: rt = rt check $(@F)
-target/made/aprcheck target/made/aptime: made = touch $@
+$(programs): rt = rt check $(@F)
+$(programs): made = touch $@
 
 target/host/check: host/check.c host/files.h host/machine include/asbru.h include/asbru_text.h target/libasbru.a
 	@mkdir -p $(@D)

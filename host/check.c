@@ -450,7 +450,9 @@ static void explain_entry(Result *result, const File *table) {
 /* What is wrong with the table. */
 static void explain_table(Result *result, const File *table) {
     say(result, "the table is refused, and no record is looked at: ");
-    if (result->number == ASBRU_REFUSED_FORMULA) {
+    if (result->number == ASBRU_REFUSED_TABLE_VERSION) {
+        say(result, "its version is %u, and %d or %d is wanted", version_of(table), ASBRU_FORMAT, ASBRU_FORMAT_2);
+    } else if (result->number == ASBRU_REFUSED_FORMULA) {
         explain_formulas(result, table);
     } else if (result->number >= ASBRU_REFUSED_PARENT) {
         explain_entry(result, table);
