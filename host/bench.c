@@ -21,7 +21,7 @@
 #include "plain.h"
 
 enum { TURNS = 25, MOST_PLANS = 256, HISTORIES = 64 };
-enum { NODE = 4, MOST_TABLE = 8 + 8 * MOST_PLANS, MOST_MOVED = MOST_TABLE + 2 + NODE * MOST_PLANS };
+enum { MOST_TABLE = 8 + 8 * MOST_PLANS };
 
 static uint64_t seed = 88172645463325252ull;
 
@@ -72,22 +72,6 @@ static void make_table(uint8_t *table, unsigned n, uint16_t *parents) {
         e[3] = children[p] ? 1 : 0;
         e[4] = p ? 0x30 : 0x20;
     }
-}
-
-/* The same table in version 2: one node "at least m named children" for each plan with children, in plan order. Returns its length. */
-static size_t move_table(uint8_t *moved, const uint8_t *table, unsigned n) {
-    uint8_t *count = moved + 8 + 8 * (size_t)n, *node = count + 2;
-    memcpy(moved, table, 8 + 8 * (size_t)n);
-    moved[3] = 2;
-    memset(count, 0, 2);
-    for (uint8_t *e = moved + 8; e < count; e += 8) {
-        if (e[2] == ASBRU_LEAF) continue;
-        const uint8_t at_least[NODE] = {5, e[7], 0, 0};
-        memcpy(node, at_least, NODE);
-        node += NODE;
-        e[7] = count[0]++;
-    }
-    return (size_t)(node - moved);
 }
 
 /* The words of one step: one plan in 256 is told to abort, and one in 64 of the lower ones to complete. */
@@ -187,10 +171,12 @@ static void measure(unsigned n, unsigned steps) {
 
 /* The library under a table of version 1, and under the same in version 2. */
 static void measure_versions(unsigned n, unsigned steps) {
-    uint8_t table[MOST_TABLE], moved[MOST_MOVED];
+    uint8_t table[MOST_TABLE], moved[ASBRU_MOST_MOVED];
     uint8_t *record = make_record(table, n, steps);
     const uint8_t *tables[2] = {table, moved};
-    size_t lengths[2] = {8 + 8 * (size_t)n, move_table(moved, table, n)};
+    size_t length = 8 + 8 * (size_t)n;
+    /* by plain C, so that this also links to a library of before */
+    size_t lengths[2] = {length, asbru_step_of(plain_to_version_2(table, length, moved, sizeof moved))};
     double check[2] = {1e18, 1e18}, step[2] = {1e18, 1e18};
     unsigned calls = single_steps(steps);
     for (int turn = 0; turn < TURNS; turn++) {

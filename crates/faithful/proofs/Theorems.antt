@@ -1,6 +1,7 @@
 -- The theorems of document 02 (vi), about tables that pass the checks of the call that moves them: `checkTo2` of one from version 1 to 2,
 -- `checkTo1` of one from version 2 to 1. Assumes nothing.
 use Prim.Native.Nat.{ℕ, _+_, _*_, _≤_, _<_}
+use native.Mathlib.Omega.{arith}
 use mathlib.Core.Path.{_≡_, sym, ap, _∙_}
 use mathlib.Core.Bool.{true}
 use mathlib.Core.List.{List}
@@ -9,8 +10,9 @@ use Rattle.rules.specs.Table.{planCount}
 use Rattle.rules.specs.WaitFor.{nodeCount, node}
 use Rattle.rules.specs.Answers.{tableCheck}
 use Rattle.rules.specs.declared.Outcome.the-variants.{Done}
+use Rattle.rules.proofs.Tree.{tree}
 use Rattle.versions.specs.Versions.{nodesBefore, inVersion2, numberWaited, inVersion1, inPlanOrder, checkFrom, checkTo2, checkTo1}
-use Rattle.versions.proofs.Laid.{length-1}
+use Rattle.versions.proofs.Laid.{length-1, length-2}
 use Rattle.versions.proofs.Moves.{passed, moved-from, from-second}
 use Rattle.alike.specs.SameCalls.{SameCalls}
 use Rattle.alike.proofs.Theorems.{same-calls, same-calls-then}
@@ -20,6 +22,7 @@ use Rattle.faithful.proofs.Passing.{
   MayMoveTo2,
   MayMoveTo1,
   room,
+  few-nodes,
   may-2,
   may-1,
   to-2-passes,
@@ -47,6 +50,10 @@ module _ (t : List ℕ) (done : checkTo2 t ≡ Done) where
 
   pub moved-in-order : inPlanOrder (inVersion2 t) ≡ true
   moved-in-order = bytes.in-order-2 from-1
+
+  -- It has at most as many bytes as include/asbru.h says (`ASBRU_MOST_MOVED`); one of version 1 has fewer.
+  pub most-moved : length (inVersion2 t) ≤ 3078
+  most-moved = omega (arith, length-2 t inside-1, few-nodes (from-1 .passed), tree t (from-1 .passed) .small)
 
   -- It passes the table's checks, and those of the way back.
   pub still-passes-2 : tableCheck (inVersion2 t) ≡ Done
