@@ -142,10 +142,10 @@
  *
  * MOVING TABLES
  *
- * asbru_to_version_2 moves every table of version 1 to version 2, asbru_to_version_1 one of version 2 to version 1 exactly where all its
- * nodes are ASBRU_AT_LEAST. The header gets the other version. Plans stay as they are, but for byte 7 of a plan with children: in version 2
- * it is the number of the plan's node, an ASBRU_AT_LEAST whose a is m, and the nodes stand in the order of their plans; in version 1 it is
- * the a of its node.
+ * asbru_to_version_2 moves every good table of version 1 to version 2, asbru_to_version_1 a good one of version 2 to version 1 exactly
+ * where all its nodes are ASBRU_AT_LEAST. The header gets the other version. Plans stay as they are, but for byte 7 of a plan with
+ * children: in version 2 it is the number of the plan's node, an ASBRU_AT_LEAST whose a is m, and the nodes stand in the order of their
+ * plans; in version 1 it is the a of its node.
  *   What is written passes all checks of a table and means the same: every step by either rule is the same under both tables, and every
  * record, which need not be touched, gets the same answer of asbru_check. Moved to version 2 and back a table has its old bytes again.
  * Moved to version 1 and back it has them exactly where its nodes stood in the order of their plans, and else the nodes are put into that

@@ -5,4 +5,5 @@ pub mod Alike
 pub mod Steps
 pub mod Calls
 pub mod Records
+pub mod SubTrees
 pub mod Theorems

@@ -1,11 +1,16 @@
 -- What document 02 (vi) promises of a table that is moved into the other version: two tables that are alike, and that both pass their
 -- checks, answer alike. Every call refuses the same or leaves the same states, and every record gets the same verdicts. Assumes nothing.
-use Prim.Native.Nat.{ℕ, suc}
+use Prim.Native.Nat.{ℕ, suc, _-_}
 use mathlib.Core.Path.{_≡_, sym, _∙_, ap}
-use mathlib.Core.List.{List}
+use mathlib.Core.Bool.{cond, _&&_}
+use mathlib.Core.List.{List, []}
+use lib.ListN.{length, take, drop}
+use lib.Dec.{eqb, ltb}
+use Rattle.rules.specs.Table.{planCount}
 use Rattle.rules.specs.Step.{step, stepUnder}
 use Rattle.rules.specs.Answers.{
   _andThen_,
+  isDone,
   ruleCheck,
   tableCheck,
   tableVerdict,
@@ -23,6 +28,7 @@ use Rattle.rules.specs.Answers.{
   unexplained,
   accepted,
 }
+use Rattle.rules.specs.SubTree.{lastDescendant, subTree}
 use Rattle.rules.specs.declared.Refusal.{Refusal}
 use Rattle.rules.specs.declared.Outcome.{Outcome}
 use Rattle.rules.specs.declared.Outcome.the-variants.{Done, Refused}
@@ -35,6 +41,7 @@ use Rattle.alike.specs.SameCalls.{SameCalls}
 use Rattle.alike.proofs.Alike.{Alike, alike-sym}
 use Rattle.alike.proofs.Steps.{same-under, same-by-words}
 use Rattle.alike.proofs.Calls.{same-lent, same-rest, same-rest-states}
+use Rattle.alike.proofs.SubTrees.{same-last}
 use Rattle.alike.proofs.Records.{same-count, same-form, same-words-check, explains-first, passes}
 
 -- what a call gives by its check
@@ -44,6 +51,10 @@ byCheck o done refused = elim o [ Done ↦ done | Refused why ↦ refused why ]
 same-by-check :
     {A : Type 0} {o o′ : Outcome} {x x′ : A} (refused : Refusal → A) → o ≡ o′ → x ≡ x′ → byCheck o x refused ≡ byCheck o′ x′ refused
 same-by-check refused e e′ = rw (e, e′)
+
+-- what the sub tree question shows, by the table's check, its number of plans and the plan's last descendant
+abbrev shown : List ℕ → ℕ → Outcome → ℕ → ℕ → List ℕ
+shown s p o n last = cond (isDone o && eqb (length s) n && ltb p n) (take (suc last - p) (drop p s)) []
 
 passed-tree : {t : List ℕ} → tableCheck t ≡ Done → Tree t
 passed-tree {t} done = tree t (table-passes t done)
@@ -95,6 +106,14 @@ module _ {t u : List ℕ} (a : Alike t u) (done : tableCheck t ≡ Done) (done�
     unfolding runStates
     same-run-states budget = same-by-check (λ why. s) same-call-check (same-rest-states a shape rule s w budget)
 
+  -- The sub tree question shows the same states.
+  pub same-sub-tree : (s : List ℕ) (p : ℕ) → subTree u s p ≡ subTree t s p
+  unfolding subTree
+  same-sub-tree s p =
+      ap (λ (o : Outcome). shown s p o (planCount u) (lastDescendant u p)) (done′ ∙ sym done)
+      ∙ ap (λ (n : ℕ). shown s p (tableCheck t) n (lastDescendant u p)) (a .plans)
+      ∙ ap (shown s p (tableCheck t) (planCount t)) (same-last a shape p)
+
   -- A verdict that the rules permit on a record under the one table they permit under the other (and back, by `alike-sym`).
   module _ (rule : ℕ) (r : List ℕ) where
     pub same-record-check : recordCheck rule u r ≡ recordCheck rule t r
@@ -124,6 +143,7 @@ same-calls a done done′ =
       step-states = same-step-states a done done′;
       run-answer = same-run-answer a done done′;
       run-states = same-run-states a done done′;
+      sub-trees = same-sub-tree a done done′;
       verdicts = λ rule r v. (same-verdict a done done′ rule r v, same-verdict (alike-sym a) done′ done rule r v);
     }
 
@@ -136,6 +156,7 @@ same-calls-then one two =
       step-states = λ rule s w. two .step-states rule s w ∙ one .step-states rule s w;
       run-answer = λ rule s w budget. two .run-answer rule s w budget ∙ one .run-answer rule s w budget;
       run-states = λ rule s w budget. two .run-states rule s w budget ∙ one .run-states rule s w budget;
+      sub-trees = λ s p. two .sub-trees s p ∙ one .sub-trees s p;
       verdicts = λ rule r v.
           let there = one .verdicts rule r v in
           let on = two .verdicts rule r v in
