@@ -18,7 +18,7 @@ pub record Alike (t u : List ℕ) : Type 0 where
   pub waits : (p : ℕ) → p < planCount t → (f : ℕ → Bool) → waitFor u p f ≡ waitFor t p f
 
 module _ {t u : List ℕ} (a : Alike t u) where
-  same-plans : SamePlans t u
+  pub same-plans : SamePlans t u
   same-plans = record { plans = a .plans; entries = a .entries }
 
   -- what does not read byte 7 is the same

@@ -3,11 +3,15 @@
 use Prim.Native.Nat.{ℕ, zero, suc, _≤_, _<_}
 use native.Mathlib.Omega.{arith}
 use mathlib.Core.Path.{_≡_, refl, sym, _∙_, ap}
+use mathlib.Core.Bool.{Bool, true, false, not, _&&_, _||_}
 use mathlib.Core.List.{List}
-use Rattle.rules.specs.Table.{planCount, entry, bodyOf, isBody, parent, isChild, childrenBefore, children}
+use lib.Dec.{eqb}
+use borrow.Author.Tests.{eqb-false}
+use Rattle.rules.specs.Table.{planCount, entry, bodyOf, isBody, parent, isChild, childrenBefore, children, isOrIsAbove}
 use Rattle.rules.specs.WaitFor.{isLeaf}
 use Rattle.rules.specs.declared.Body.the-variants.{Leaf}
 use Rattle.rules.specs.declared.PlanEntry.{PlanEntry}
+use Rattle.rules.proofs.Tree.{Tree}
 
 -- an entry with another byte 7
 abbrev pub withWait : ℕ → PlanEntry → PlanEntry
@@ -58,3 +62,19 @@ module _ {t u : List ℕ} (s : SamePlans t u) where
   pub children-as : (q : ℕ) → children u q ≡ children t q
   unfolding children
   children-as q = rw (s .plans) (before-as q (planCount t) (omega arith))
+
+  -- and so are the ancestors, if one table is a tree
+  pub above-as : Tree t → (a fuel k : ℕ) → k < planCount t → isOrIsAbove u a fuel k ≡ isOrIsAbove t a fuel k
+  unfolding isOrIsAbove
+  above-as tree a zero k l = refl
+  above-as tree a (suc fuel) k l = go (eqb k 0) refl (above-as tree a fuel (parent t k))
+    where
+      go :
+          (b : Bool) → eqb k 0 ≡ b
+          → (parent t k < planCount t → isOrIsAbove u a fuel (parent t k) ≡ isOrIsAbove t a fuel (parent t k))
+          → (eqb a k || not b && isOrIsAbove u a fuel (parent u k)) ≡ (eqb a k || not b && isOrIsAbove t a fuel (parent t k))
+      go true z up = refl
+      go false z up =
+          let positive : 0 < k = omega (arith, eqb-false k 0 z) in
+          ap (λ (b : Bool). eqb a k || b)
+          (ap (isOrIsAbove u a fuel) (parent-as k l) ∙ up (omega (arith, tree .down k positive l)))

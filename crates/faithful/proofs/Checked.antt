@@ -7,7 +7,7 @@ use mathlib.Core.Path.{_≡_, refl, _∙_, ap, ap₂}
 use mathlib.Core.List.{List}
 use lib.Dec.{eqb, leb, ltb}
 use lib.ListN.{length}
-use borrow.Author.Tests.{eqb-false, eq-eqb, le-ltb}
+use borrow.Author.Tests.{eq-eqb, le-ltb}
 use Rattle.rules.specs.Lists.{same, least, Nowhere, noPlan}
 use Rattle.rules.specs.Bytes.{text}
 use Rattle.rules.specs.Table.{
@@ -43,7 +43,7 @@ use Rattle.rules.specs.declared.PlanEntry.{PlanEntry}
 use Rattle.rules.proofs.Outcomes.{first-done, then-done, if-done, pass, pass-last, pass-at, pass-at-last, then-next}
 use Rattle.rules.proofs.Tree.{Passes, tree}
 use Rattle.lowest.proofs.Lowest.{lowest-none, ends-here}
-use Rattle.alike.proofs.SamePlans.{withWait, SamePlans, plan-as, parent-as, before-as, children-as}
+use Rattle.alike.proofs.SamePlans.{withWait, SamePlans, plan-as, parent-as, before-as, children-as, above-as}
 use Rattle.faithful.proofs.Shape.{Moved, same-count, same-last, wait-is, same-plans}
 use Rattle.faithful.proofs.Passing.{room}
 
@@ -93,26 +93,11 @@ module _ {t u : List ℕ} {v : ℕ} {wait : ℕ → ℕ} (m : Moved t u v wait) 
       (ap₂ (λ (n b : ℕ). ltb n 1 || ltb 256 n || not (eqb b 0)) (same-count m) (same-last m) ∙ if-done _ _ (then-done _ _ r₃))
 
   -- 6
-  above-as : (a fuel k : ℕ) → k < planCount t → isOrIsAbove u a fuel k ≡ isOrIsAbove t a fuel k
-  unfolding isOrIsAbove
-  above-as a zero k l = refl
-  above-as a (suc fuel) k l = go (eqb k 0) refl (above-as a fuel (parent t k))
-    where
-      go :
-          (b : Bool) → eqb k 0 ≡ b
-          → (parent t k < planCount t → isOrIsAbove u a fuel (parent t k) ≡ isOrIsAbove t a fuel (parent t k))
-          → (eqb a k || not b && isOrIsAbove u a fuel (parent u k)) ≡ (eqb a k || not b && isOrIsAbove t a fuel (parent t k))
-      go true z up = refl
-      go false z up =
-          let positive : 0 < k = omega (arith, eqb-false k 0 z) in
-          ap (λ (b : Bool). eqb a k || b)
-          (ap (isOrIsAbove u a fuel) (parent-as plans k l) ∙ up (omega (arith, tree t passed .down k positive l)))
-
   unrooted-as : (p : ℕ) → p < planCount t → unrooted u p ≡ unrooted t p
   unfolding unrooted
   unrooted-as zero l = ap (λ (q : ℕ). not (eqb q noPlan)) (parent-as plans 0 l)
   unrooted-as (suc k) l =
-      ap not (ap (λ (q : ℕ). isOrIsAbove u q k k) (parent-as plans (suc k) l) ∙ above-as (parent t (suc k)) k k (omega arith))
+      ap not (ap (λ (q : ℕ). isOrIsAbove u q k k) (parent-as plans (suc k) l) ∙ above-as plans (tree t passed) (parent t (suc k)) k k (omega arith))
 
   rank-as : (p : ℕ) → p < planCount t → rank u p ≡ rank t p
   unfolding rank
