@@ -97,7 +97,9 @@ module _ {t u : List ℕ} {v : ℕ} {wait : ℕ → ℕ} (m : Moved t u v wait) 
   unfolding unrooted
   unrooted-as zero l = ap (λ (q : ℕ). not (eqb q noPlan)) (parent-as plans 0 l)
   unrooted-as (suc k) l =
-      ap not (ap (λ (q : ℕ). isOrIsAbove u q k k) (parent-as plans (suc k) l) ∙ above-as plans (tree t passed) (parent t (suc k)) k k (omega arith))
+      ap not
+      (ap (λ (q : ℕ). isOrIsAbove u q k k) (parent-as plans (suc k) l)
+      ∙ above-as plans (tree t passed) (parent t (suc k)) k k (omega arith))
 
   rank-as : (p : ℕ) → p < planCount t → rank u p ≡ rank t p
   unfolding rank

@@ -1,5 +1,6 @@
--- Theorems over the definitions of crate versions: what a moved table keeps. The theorems: Theorems (there and back, plan order, the checks,
--- the same calls and verdicts); the rest leads to them. That tables of which they speak exist is shown by rows of crates/versions/specs.
+-- Theorems over the definitions of crate versions: what a moved table keeps. The theorems: Theorems (there and back, plan order, the
+-- checks, the same calls and verdicts); the rest leads to them. That tables of which they speak exist is shown by rows of
+-- crates/versions/specs.
 pub mod InARow
 pub mod Shape
 pub mod MovedBytes

@@ -1,6 +1,6 @@
 -- One answer: any two that the contract of a function for C permits are equal, and so are the states that `asbru_step` and `asbru_rest`
--- leave, the output that the two moves do and the numbers that `asbru_normalise` does, the contract being as Rattle reads it. And packing loses nothing: a host finds
--- number, plan and step in an answer again, and a refusal's number is never 0. Assumes nothing.
+-- leave, the output that the two moves do and the numbers that `asbru_normalise` does, the contract being as Rattle reads it. And packing
+-- loses nothing: a host finds number, plan and step in an answer again, and a refusal's number is never 0. Assumes nothing.
 use Prim.Native.Nat.{ℕ, _/_, _%_, _^_, _<_, _≤_}
 use native.Mathlib.Omega.{arith}
 use mathlib.Core.Path.{_≡_, sym, ap, _∙_}

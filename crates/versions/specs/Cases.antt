@@ -132,7 +132,7 @@ room zero = []
 room (suc k) = room k ++ ((100 + k) ∷ [])
 
 pub data Row : Type 0 where
-  -- a move to version 1 or 2 that is done: the table, the output's length, what is written and its length; all bytes past it are as they were
+  -- a move to version 1 or 2 that is done: the table, the output's length, what is written and its length; all past it is as it was
   rowMoved : ℕ → List ℕ → ℕ → List ℕ → ℕ → Row
   -- one that is refused: the table, the output's length, number and plan; the output is as it was
   rowRefused : ℕ → List ℕ → ℕ → ℕ → ℕ → Row
@@ -150,8 +150,9 @@ calls : ℕ → List ℕ → ℕ → ℕ → ℕ → ℕ → List ℕ → Bool
 unfolding told room
 calls to t k number step plan left =
     let first : Bool = eqb to 1 in
-    let answer : Place =
-    told (elim first [ true ↦ moveAnswer (checkTo1 t) (inVersion1 t) (room k) | false ↦ moveAnswer (checkTo2 t) (inVersion2 t) (room k) ]) in
+    let to1 : Verdict = moveAnswer (checkTo1 t) (inVersion1 t) (room k) in
+    let to2 : Verdict = moveAnswer (checkTo2 t) (inVersion2 t) (room k) in
+    let answer : Place = told (elim first [ true ↦ to1 | false ↦ to2 ]) in
     eqb (answer .number) number && eqb (answer .step) step && eqb (answer .plan) plan
     && same left
     (elim first [ true ↦ moveOutput (checkTo1 t) (inVersion1 t) (room k) | false ↦ moveOutput (checkTo2 t) (inVersion2 t) (room k) ])

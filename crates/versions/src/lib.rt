@@ -219,7 +219,8 @@ fn wait_as(table: &[u8], p: usize, wait: u8) -> u8
 // Puts the n plans behind the header, those with children with the numbers of their nodes.
 fn put_numbered(table: &[u8], n: usize, output: &mut [u8]) -> usize
     requires { ⌜ HasPlans (now table) n × (8 + 8 * n ≤ length (now output)) ⌝ }
-    ensures { λ r. ⌜ Appended (now (output .entry)) 8 (plansAs (now (table .entry)) (nodesBefore (now (table .entry))) n) (now (output .exit)) r ⌝ }
+    ensures { λ r. ⌜ Appended (now (output .entry)) 8 (plansAs (now (table .entry)) (nodesBefore (now (table .entry))) n)
+        (now (output .exit)) r ⌝ }
 {
     let mut nodes = 0;
     for p in 0..n {
@@ -232,7 +233,8 @@ fn put_numbered(table: &[u8], n: usize, output: &mut [u8]) -> usize
 // Puts the n plans behind the header, those with children with the m of their nodes.
 fn put_waiting(table: &[u8], n: usize, output: &mut [u8]) -> usize
     requires { ⌜ HasPlans (now table) n × (8 + 8 * n ≤ length (now output)) ⌝ }
-    ensures { λ r. ⌜ Appended (now (output .entry)) 8 (plansAs (now (table .entry)) (numberWaited (now (table .entry))) n) (now (output .exit)) r ⌝ }
+    ensures { λ r. ⌜ Appended (now (output .entry)) 8 (plansAs (now (table .entry)) (numberWaited (now (table .entry))) n)
+        (now (output .exit)) r ⌝ }
 {
     for p in 0..n {
         put_plan(table, p, number_waited(table, n, p), output);

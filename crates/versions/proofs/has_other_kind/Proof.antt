@@ -35,13 +35,15 @@ returns c =
 loop-again : tie.Need-loop-again Inv-loop μ-loop
 loop-again c =
     let read = c .before .before in
-    (omega arith, below-more _ _ (read .before .before .loop .inv .1) (ap other (sym (read .node-at .ensures)) ∙ ap not (eq-eqb _ _ (c .if1 .left))))
+    let is = ap other (sym (read .node-at .ensures)) ∙ ap not (eq-eqb _ _ (c .if1 .left)) in
+    (omega arith, below-more _ _ (read .before .before .loop .inv .1) is)
 
 returns-2 : tie.Need-returns-2 Inv-loop μ-loop
 unfolding otherKind
 returns-2 c =
     let start = c .before .before .before in
-    rw (sym (start .pre .all)) (sym (none-below (λ i. other (node (now (start .args .table)) i)) (start .args .k) (λ j l. c .before .loop .inv .1 j (omega arith))))
+    let none = none-below (λ i. other (node (now (start .args .table)) i)) (start .args .k) (λ j l. c .before .loop .inv .1 j (omega arith)) in
+    rw (sym (start .pre .all)) (sym none)
 
 pub has-other-kind-spec : {M : Type 1} → statement M
 has-other-kind-spec =

@@ -28,7 +28,8 @@ returns-2 c =
 module _ (c : tie.After-u16-at) where
   by-version :
       let start = c .before .before .before .before .before in
-      versionCheck (now (start .args .table)) (start .args .from) ≡ refuseIf (not (eqb (c .u16-at .result) (start .args .from))) TableVersion
+      let from = start .args .from in
+      versionCheck (now (start .args .table)) from ≡ refuseIf (not (eqb (c .u16-at .result) from)) TableVersion
   unfolding versionCheck
   by-version =
       let start = c .before .before .before .before .before in
