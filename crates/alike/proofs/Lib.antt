@@ -1,5 +1,6 @@
 -- Tables that are alike give the same steps, answers and verdicts. The theorems: Theorems (the same calls and verdicts); the rest leads to
 -- them.
+pub mod Agree
 pub mod SamePlans
 pub mod Alike
 pub mod Steps

@@ -1,10 +1,11 @@
 -- Under tables that are alike, one of them a tree, a record falls into the same steps, and the same picks explain them. Assumes nothing.
 use Prim.Native.Nat.{ℕ, zero, suc}
-use mathlib.Core.Path.{_≡_, _∙_}
+use mathlib.Core.Path.{_≡_}
 use mathlib.Core.List.{List}
 use Rattle.rules.specs.Table.{planCount}
+use Rattle.rules.specs.Step.{stepUnder}
 use Rattle.rules.specs.Record.{Explained, stepCount, wordsOf, statesOf, statesBefore, ExplainedFirst}
-use Rattle.rules.specs.Answers.{badRecordWord, formCheck, wordsCheck, StepPasses}
+use Rattle.rules.specs.Answers.{badRecordWord, formCheck, wordsCheck}
 use Rattle.rules.proofs.Tree.{Tree}
 use Rattle.alike.proofs.Alike.{Alike, same-children}
 use Rattle.alike.proofs.Steps.{same-body, same-under}
@@ -39,6 +40,7 @@ module _ {t u : List ℕ} (a : Alike t u) (r : List ℕ) where
 module _ {t u : List ℕ} (a : Alike t u) (tree : Tree t) (rule : ℕ) where
   -- the same picks explain the first k plans
   explains : (s w shown : List ℕ) (k : ℕ) → Explained rule t s w shown k → Explained rule u s w shown k
+  unfolding stepUnder
   explains s w shown k e =
       record {
         pick = e .pick;
@@ -48,10 +50,3 @@ module _ {t u : List ℕ} (a : Alike t u) (tree : Tree t) (rule : ℕ) where
 
   pub explains-first : (r : List ℕ) (i k : ℕ) → ExplainedFirst rule t r i k → ExplainedFirst rule u r i k
   explains-first r i k e = rw (same-before a r i, same-words a r i, same-states a r i) (explains _ _ _ k e)
-
-  pub passes : (r : List ℕ) (i : ℕ) → StepPasses rule t r i → StepPasses rule u r i
-  passes r i passed =
-      record {
-        words = same-words-check a r i ∙ passed .words;
-        states = explains-first r i (planCount u) (rw (a .plans) (passed .states));
-      }

@@ -2,17 +2,19 @@
 -- how it moves. Assumes nothing.
 use Prim.Native.Nat.{ℕ, zero, suc, _≤_, _<_}
 use native.Mathlib.Omega.{arith}
-use mathlib.Core.Bool.{Bool, not}
+use mathlib.Core.Bool.{Bool, not, _&&_}
 use mathlib.Core.Path.{_≡_, refl, _∙_}
 use mathlib.Core.List.{List}
-use Rattle.rules.specs.States.{stateAt, oneOf}
-use Rattle.rules.specs.Table.{planCount, entry, parent, bodyOf, retryAborted, waitForOptional}
+use Rattle.rules.specs.States.{stateAt, oneOf, is}
+use Rattle.rules.specs.Table.{planCount, entry, parent, bodyOf, named, retryAborted, waitForOptional}
 use Rattle.rules.specs.Words.{word, pickOf, holds, satisfiable}
 use Rattle.rules.specs.Step.{
   move,
   lostStates,
   tooManyLost,
   childrenComplete,
+  fallback,
+  readyOr,
   chosen,
   orders,
   moveOf,
@@ -25,7 +27,9 @@ use Rattle.rules.specs.Step.{
 use Rattle.rules.specs.declared.Orders.{Orders}
 use Rattle.rules.specs.declared.PlanEntry.{PlanEntry}
 use Rattle.rules.specs.declared.PlanState.{PlanState}
+use Rattle.rules.specs.declared.PlanState.the-variants.{Ready}
 use Rattle.rules.proofs.Tree.{Tree}
+use Rattle.alike.proofs.Agree.{some-child, first-child}
 use Rattle.alike.proofs.Alike.{Alike, withWait, same-entry, same-parent, same-children}
 
 pub parent-within : {t : List ℕ} → Tree t → (k : ℕ) → suc k < planCount t → parent t (suc k) < planCount t
@@ -38,10 +42,24 @@ move-unread :
 unfolding move holds satisfiable
 move-unread parent o x lost mayComplete old m e = refl
 
--- the any-order choice
-pub same-chosen : {t u : List ℕ} → Alike t u → (s : List ℕ) (pick : ℕ → ℕ) (q : ℕ) → chosen u s pick q ≡ chosen t s pick q
-unfolding chosen
-same-chosen a s pick q = rw (same-children a q)
+-- the any-order choice: which children are named stands in another byte
+module _ {t u : List ℕ} (a : Alike t u) (s : List ℕ) (q : ℕ) where
+  abbrev readyNamed : List ℕ → ℕ → Bool
+  readyNamed x c = is Ready (stateAt s c) && named (entry x c)
+
+  same-test : (c : ℕ) → c < planCount t → readyNamed u c ≡ readyNamed t c
+  same-test c l = rw (same-entry a named (λ m e. refl) c l)
+
+  same-fallback : fallback u s q ≡ fallback t s q
+  unfolding fallback
+  same-fallback =
+      let f : ℕ → Bool = readyNamed u in
+      let g : ℕ → Bool = readyNamed t in
+      rw (same-children a q, some-child f g t same-test q, first-child f g t same-test q)
+
+  pub same-chosen : (pick : ℕ → ℕ) → chosen u s pick q ≡ chosen t s pick q
+  unfolding readyOr chosen
+  same-chosen pick = rw (same-fallback, same-children a q)
 
 -- what is read of a plan's entry
 module _ {t u : List ℕ} (a : Alike t u) (p : ℕ) (l : p < planCount t) where
@@ -101,7 +119,7 @@ module _ {t u : List ℕ} (a : Alike t u) (tree : Tree t) (rule : ℕ) (s w : Li
 
   pub same-under : (pick : ℕ → ℕ) → stepUnder rule u s w pick ≡ stepUnder rule t s w pick
   unfolding stepUnder
-  same-under pick = same-all (chosen u s pick) (chosen t s pick) (λ q l. same-chosen a s pick q)
+  same-under pick = same-all (chosen u s pick) (chosen t s pick) (λ q l. same-chosen a s q pick)
 
   -- under the picks of the words
   pub same-by-words : step rule u s w ≡ step rule t s w

@@ -21,12 +21,7 @@ use Rattle.rules.specs.Answers.{
   runAnswer,
   runStates,
   recordCheck,
-  StepPasses,
   Judged,
-  malformed,
-  badWords,
-  unexplained,
-  accepted,
 }
 use Rattle.rules.specs.SubTree.{lastDescendant, subTree}
 use Rattle.rules.specs.declared.Refusal.{Refusal}
@@ -37,12 +32,13 @@ use Rattle.rules.specs.declared.Verdict.the-variants as verdict
 use Rattle.rules.specs.declared.Rest.the-variants as rest
 use Rattle.rules.proofs.Tree.{Tree, tree, passes as table-passes, accepted as table-accepted}
 use Rattle.rules.proofs.Outcomes.{then-next}
+use Rattle.rules.proofs.Verdicts.{still-judged}
 use Rattle.alike.specs.SameCalls.{SameCalls}
 use Rattle.alike.proofs.Alike.{Alike, alike-sym}
 use Rattle.alike.proofs.Steps.{same-under, same-by-words}
 use Rattle.alike.proofs.Calls.{same-lent, same-rest, same-rest-states}
 use Rattle.alike.proofs.SubTrees.{same-last}
-use Rattle.alike.proofs.Records.{same-count, same-form, same-words-check, explains-first, passes}
+use Rattle.alike.proofs.Records.{same-count, same-form, same-words-check, explains-first}
 
 -- what a call gives by its check
 abbrev byCheck : {A : Type 0} → Outcome → A → (Refusal → A) → A
@@ -120,19 +116,17 @@ module _ {t u : List ℕ} (a : Alike t u) (done : tableCheck t ≡ Done) (done�
     unfolding recordCheck
     same-record-check = same-checked rule (same-form a r)
 
-    still-passes : (i : ℕ) → StepPasses rule t r i → StepPasses rule u r i
-    still-passes = passes a shape rule r
-
     pub same-verdict : (v : Verdict) → Judged rule t r v → Judged rule u r v
-    same-verdict v (malformed e) = malformed (same-record-check ∙ e)
-    same-verdict v (badWords i d l before e) =
-        badWords i (same-record-check ∙ d) (rw (same-count a r) l) (λ j m. still-passes j (before j m)) (same-words-check a r i ∙ e)
-    same-verdict v (unexplained i p d l before e h below n) =
-        unexplained i p (same-record-check ∙ d) (rw (same-count a r) l) (λ j m. still-passes j (before j m))
-        (same-words-check a r i ∙ e) (rw (a .plans) h) (λ j m. explains-first a shape rule r i (suc j) (below j m))
-        (λ x. n (explains-first (alike-sym a) (passed-tree done′) rule r i (suc p) x))
-    same-verdict v (accepted d p) =
-        rw (← same-count a r) (accepted (same-record-check ∙ d) (λ i l. still-passes i (p i (rw (same-count a r) at l))))
+    same-verdict =
+        still-judged
+        (record {
+          checked = same-record-check;
+          plans = a .plans;
+          steps = same-count a r;
+          words = same-words-check a r;
+          there = λ good i k l. explains-first a shape rule r i k;
+          back = λ good i k l. explains-first (alike-sym a) (passed-tree done′) rule r i k;
+        })
 
 -- so every call is,
 pub same-calls : {t u : List ℕ} → Alike t u → tableCheck t ≡ Done → tableCheck u ≡ Done → SameCalls t u

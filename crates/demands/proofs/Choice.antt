@@ -1,26 +1,28 @@
 -- Laws of the any-order choice: picks choose among the Ready children, and the witness chooses the child that is shown. This file
--- alone opens `chosen` and `witness`. Assumes nothing.
+-- alone opens `chosen`, `chosenBefore` and `witness`. Assumes nothing.
 use Prim.Native.Nat.{ℕ, zero, suc, _<_, _≤_}
 use native.Mathlib.Omega.{arith}
 use native.Mathlib.Decide.{ℕ-discrete}
-use mathlib.Core.Bool.{Bool, true, false, cond, not, _&&_, true≢false}
-use mathlib.Core.Path.{_≡_, refl, sym, ap, _∙_}
-use mathlib.Core.Logic.{_⊎_, inl, inr, ⊎-elim}
+use mathlib.Core.Bool.{Bool, true, false, cond, not, _&&_}
+use mathlib.Core.Path.{_≡_, refl, sym, _∙_}
+use mathlib.Core.Logic.{_⊎_, inl, inr}
 use mathlib.Core.List.{List, [], _∷_, List·Memᴰ, List·Memᴰ·head, List·Memᴰ·tail}
 use lib.ListN.{getD, length}
 use lib.Dec.{T, T-not, eqb, eqb→eq, eqb-refl, leb, leb→le, nleb→lt, ltb, lt→ltb}
 use borrow.Author.Tests.{ne-eqb}
-use Rattle.rules.specs.Lists.{some, noPlan, first}
+use Rattle.rules.specs.Lists.{some, first}
 use Rattle.rules.specs.States.{stateAt, is}
-use Rattle.rules.specs.Table.{planCount, entry, bodyOf, isBody, children, rank}
+use Rattle.rules.specs.Table.{planCount, entry, bodyOf, isBody, named, children, rank}
 use Rattle.rules.specs.Words.{pickAllowed}
-use Rattle.rules.specs.Step.{chosen}
+use Rattle.rules.specs.Step.{fallback, readyOr, chosen}
+use Rattle.rules.specs.Record.{Choosing}
 use Rattle.rules.specs.declared.Body.the-variants.{AnyOrder}
 use Rattle.rules.specs.declared.PlanState.the-variants.{Ready, Activated}
 use Rattle.rules.proofs.Bodies.{body-is}
+use Rattle.demands.specs.Before.{chosenBefore}
 use Rattle.demands.specs.Witness.{last, firstMarked, activatedChild, witness}
 use Rattle.demands.proofs.Tests.{both, left, right, decide, is-true, cond-by}
-use Rattle.demands.proofs.Lists.{Found, found-some, first-found, first-or-none, last-found, Sorted, first-le, last-ge}
+use Rattle.demands.proofs.Lists.{Found, found-some, first-found, last-found, Sorted, first-le, last-ge}
 use Rattle.demands.proofs.Children.{member-child, sorted-children, rank-small, at-rank}
 
 -- what stands at a place of a list, or the default
@@ -94,52 +96,63 @@ isReady s c = is Ready (stateAt s c)
 abbrev pub ReadyChild : List ℕ → List ℕ → ℕ → ℕ → Type 0
 ReadyChild t s q c = Found (isReady s) (children t q) c
 
--- Picks choose a Ready child where there is one, and can choose each.
-module _ (t s : List ℕ) (pick : ℕ → ℕ) (q : ℕ) where
-  abbrev lowest : ℕ
-  lowest = first (isReady s) (children t q)
+-- What is taken where the pick is not Ready is a Ready child where there is one.
+module _ (t s : List ℕ) (q : ℕ) where
+  abbrev someReady : Bool
+  someReady = some (isReady s) (children t q)
 
-  pub chosen-found : T (some (isReady s) (children t q)) → ReadyChild t s q (chosen t s pick q)
-  unfolding chosen
-  chosen-found h = go (getD (children t q) (pick q) lowest) (at-place (children t q) (pick q) lowest)
-    where
-      fallback : ReadyChild t s q lowest
-      fallback = first-found (isReady s) (children t q) h
+  lowest-found : T someReady → ReadyChild t s q (first (isReady s) (children t q))
+  lowest-found h = first-found (isReady s) (children t q) h
 
-      go :
-          (c : ℕ) → List·Memᴰ c (children t q) ⊎ (c ≡ lowest)
-          → ReadyChild t s q (cond (isReady s c) c lowest)
-      go c (inl m) =
-          cond-by (ReadyChild t s q) (isReady s c) (λ r. record { member = m; passes = r }) (λ r. fallback)
-      go c (inr e) = cond-by (ReadyChild t s q) (isReady s c) (λ r. rw e fallback) (λ r. fallback)
+  fallback-found : T someReady → ReadyChild t s q (fallback t s q)
+  unfolding fallback
+  fallback-found h =
+      let isNamed : ℕ → Bool = (λ c. named (entry t c)) in
+      cond-by (ReadyChild t s q) (some (λ c. isReady s c && isNamed c) (children t q))
+      (λ m. candidate-found (isReady s) isNamed (children t q) (first-found (λ c. isReady s c && isNamed c) (children t q) m))
+      (λ m. lowest-found h)
 
-  -- only the plan's own pick is read
-  pub same-chosen : (other : ℕ → ℕ) → pick q ≡ other q → chosen t s pick q ≡ chosen t s other q
-  unfolding chosen
-  same-chosen other e = rw e refl
+  -- then so is what a rank gives, and it gives each
+  module _ (other k : ℕ) where
+    ready-or-found : (T someReady → ReadyChild t s q other) → T someReady → ReadyChild t s q (readyOr t s other k q)
+    unfolding readyOr
+    ready-or-found falls h = go (getD (children t q) k other) (at-place (children t q) k other)
+      where
+        go : (c : ℕ) → List·Memᴰ c (children t q) ⊎ (c ≡ other) → ReadyChild t s q (cond (isReady s c) c other)
+        go c (inl m) = cond-by (ReadyChild t s q) (isReady s c) (λ r. record { member = m; passes = r }) (λ r. falls h)
+        go c (inr e) = cond-by (ReadyChild t s q) (isReady s c) (λ r. rw e (falls h)) (λ r. falls h)
 
-  -- a plan that is not Ready is not chosen
-  pub not-chosen : (p : ℕ) → p < noPlan → isReady s p ≡ false → eqb p (chosen t s pick q) ≡ false
-  unfolding chosen
-  not-chosen p l unready = ne-eqb p _ (go (getD (children t q) (pick q) lowest))
-    where
-      unlike : (c : ℕ) → isReady s c ≡ true → p ≡ c → ⊥
-      unlike c r e = true≢false (sym r ∙ ap (isReady s) (sym e) ∙ unready)
+    ready-or-rank : (c : ℕ) → ReadyChild t s q c → k ≡ rank t c → readyOr t s other k q ≡ c
+    unfolding readyOr
+    ready-or-rank c f e = rw (e, at-rank t q c other (member-child t q c (f .member)), is-true (isReady s c) (f .passes))
 
-      none : p ≡ lowest → ⊥
-      none e = ⊎-elim (λ r. unlike lowest r e) (λ h. omega (arith, e, h)) (first-or-none (isReady s) (children t q))
+-- The two laws of a way to choose: picks choose a Ready child where there is one, and the rank of each chooses it.
+pub record AmongReady (choosing : Choosing) : Type 0 where
+  pub found :
+      (t s : List ℕ) (pick : ℕ → ℕ) (q : ℕ) → T (some (isReady s) (children t q)) → ReadyChild t s q (choosing t s pick q)
+  pub ranked : (t s : List ℕ) (pick : ℕ → ℕ) (q c : ℕ) → ReadyChild t s q c → pick q ≡ rank t c → choosing t s pick q ≡ c
 
-      go : (c : ℕ) → p ≡ cond (isReady s c) c lowest → ⊥
-      go c = by (isReady s c) refl
-        where
-          by : (b : Bool) → isReady s c ≡ b → p ≡ cond b c lowest → ⊥
-          by true r e = unlike c r e
-          by false r e = none e
+-- They hold of the way that stands, and of the one before document 02 (vii).
+pub chosen-among : AmongReady chosen
+unfolding chosen
+chosen-among =
+    record {
+      found = λ t s pick q. ready-or-found t s q (fallback t s q) (pick q) (fallback-found t s q);
+      ranked = λ t s pick q. ready-or-rank t s q (fallback t s q) (pick q);
+    }
 
-  chosen-rank : (c : ℕ) → ReadyChild t s q c → pick q ≡ rank t c → chosen t s pick q ≡ c
-  unfolding chosen
-  chosen-rank c f e =
-      rw (e, at-rank t q c lowest (member-child t q c (f .member)), is-true (isReady s c) (f .passes))
+pub before-among : AmongReady chosenBefore
+unfolding chosenBefore
+before-among =
+    record {
+      found = λ t s pick q. ready-or-found t s q (first (isReady s) (children t q)) (pick q) (lowest-found t s q);
+      ranked = λ t s pick q. ready-or-rank t s q (first (isReady s) (children t q)) (pick q);
+    }
+
+-- only the plan's own pick is read
+pub same-chosen : (t s : List ℕ) (pick : ℕ → ℕ) (q : ℕ) (other : ℕ → ℕ) → pick q ≡ other q → chosen t s pick q ≡ chosen t s other q
+unfolding chosen
+same-chosen t s pick q other e = rw e refl
 
 -- The witness.
 module _ (t s shown : List ℕ) (q : ℕ) where
@@ -161,10 +174,11 @@ module _ (t s shown : List ℕ) (q : ℕ) where
 
   -- it chooses the child that is shown
   pub witness-chooses :
-      bodyOf (entry t q) ≡ AnyOrder → T ready → chosen t s (witness t s shown) q ≡ activatedChild t s shown q
+      {choosing : Choosing} → AmongReady choosing → bodyOf (entry t q) ≡ AnyOrder → T ready
+      → choosing t s (witness t s shown) q ≡ activatedChild t s shown q
   unfolding witness
-  witness-chooses b r =
-      chosen-rank t s (witness t s shown) q (activatedChild t s shown q) (activated-found r) (rw (b, is-true ready r))
+  witness-chooses among b r =
+      among .ranked t s (witness t s shown) q (activatedChild t s shown q) (activated-found r) (rw (b, is-true ready r))
 
   -- it is below 64, as the plans' ranks are
   pub witness-narrow : ((c : ℕ) → c < planCount t → rank t c < 64) → witness t s shown q < 64

@@ -1,6 +1,6 @@
 -- Laws and theorems over the definitions of crate rules. The theorems: Witness and PlanByPlan (which picks explain the states
 -- shown), Valid (a step keeps check 11 passed), OneInExecution, OnlyWhileParent and EndingsKept (demand 3's last rules), Unique (one
--- verdict). The rest leads to them.
+-- verdict), VerdictStays (the same verdicts as before document 02 (vii)). The rest leads to them.
 pub mod Numbers
 pub mod Tests
 pub mod Lists
@@ -19,6 +19,7 @@ pub mod TwoChildren
 pub mod Went
 pub mod Valid
 pub mod Accepted
+pub mod VerdictStays
 pub mod OneInExecution
 pub mod OnlyWhileParent
 pub mod EndingsKept

@@ -23,6 +23,8 @@ use Rattle.rules.specs.Step.{
   firstNotDone,
   gateOpen,
   mayActivate,
+  fallback,
+  readyOr,
   chosen,
   due,
   orders,
@@ -199,10 +201,10 @@ differ-1 e = omega (arith, e)
 
 pub lively : Lively
 unfolding
-    leastFrom stateAt childrenBefore children rank isOrIsAbove waitFor holds satisfiable move tooManyLost allEnded childrenComplete firstNotDone
-    gateOpen mayActivate chosen due orders stepFirst stepBy stepUnder undefinedEntry unfitEntry unrooted badParent undefinedByte unfit tooMany badWait
-    _andThen_ refuseIf refuseAt headerCheck plansCheck ruleCheck tableCheck badRecordWord formCheck recordCheck wordsCheck tableLength
-    activatedChild witness
+    leastFrom stateAt childrenBefore children rank isOrIsAbove waitFor holds satisfiable move tooManyLost allEnded childrenComplete
+    firstNotDone gateOpen mayActivate fallback readyOr chosen due orders stepFirst stepBy stepUnder undefinedEntry unfitEntry unrooted
+    badParent undefinedByte unfit tooMany badWait _andThen_ refuseIf refuseAt headerCheck plansCheck ruleCheck tableCheck
+    badRecordWord formCheck recordCheck wordsCheck tableLength activatedChild witness
 lively =
     record {
       judged = (accepted-by-test 1 ward morning refl tt, accepted-by-test 2 ward morning refl tt);

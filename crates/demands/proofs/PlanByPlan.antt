@@ -26,7 +26,7 @@ explained-fewer rule t s w shown j k l e =
     record {
       pick = e .pick;
       allowed = e .allowed;
-      agrees = sym (take-take j k (stepUnder rule t s w (e .pick)) l) ∙ ap (take j) (e .agrees) ∙ take-take j k shown l;
+      agrees = sym (take-take j k (stepBy rule t s w (chosen t s (e .pick))) l) ∙ ap (take j) (e .agrees) ∙ take-take j k shown l;
     }
 
 -- as many states as plans

@@ -2,3 +2,4 @@
 pub mod Witness
 pub mod PassesStates
 pub mod BranchesAgree
+pub mod Before

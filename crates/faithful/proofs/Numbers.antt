@@ -1,46 +1,30 @@
 -- Wait-for by a number of named children. A table of version 1 says the number in byte 7, one of version 2 in a node of kind 5: where the
 -- two have the same plans otherwise and the same numbers, they are alike. Assumes nothing.
-use Prim.Native.Nat.{ℕ, zero, suc, _+_, _<_}
+use Prim.Native.Nat.{ℕ, _<_}
 use native.Mathlib.Omega.{arith}
-use mathlib.Core.Bool.{Bool, true, false, cond, _&&_, _||_}
-use mathlib.Core.Path.{_≡_, refl, sym, _∙_, ap, ap₂}
-use mathlib.Core.List.{List, [], _∷_}
+use mathlib.Core.Bool.{Bool, true, false, _&&_, _||_}
+use mathlib.Core.Path.{_≡_, refl, sym, _∙_, ap}
+use mathlib.Core.List.{List}
 use lib.Dec.{leb, ltb}
 use borrow.Author.Tests.{le-leb, le-ltb}
 use Rattle.rules.specs.Lists.{count}
-use Rattle.rules.specs.Table.{version, planCount, entry, named, isChild, childrenBefore, children}
+use Rattle.rules.specs.Table.{version, planCount, entry, named, children}
 use Rattle.rules.specs.WaitFor.{asks, node, isLeaf, atLeast, askedHolds, formulaHolds, waitFor}
 use Rattle.rules.specs.Answers.{tooMany}
 use Rattle.rules.specs.declared.Asks.the-variants.{AtLeast}
-use Rattle.nodes.proofs.Uses.{count-append}
+use Rattle.alike.proofs.Agree.{count-children}
 use Rattle.alike.proofs.SamePlans.{SamePlans, plan-as, leaf-as, children-as}
 use Rattle.alike.proofs.Alike.{Alike}
 use Rattle.faithful.proofs.Passing.{is-first, is-second}
-
--- two tests that agree on the first n plans count as many children
-counts-as :
-    (t : List ℕ) (q n : ℕ) (f g : ℕ → Bool) → ((c : ℕ) → c < n → f c ≡ g c)
-    → count f (childrenBefore t q n) ≡ count g (childrenBefore t q n)
-unfolding childrenBefore
-counts-as t q zero f g agree = refl
-counts-as t q (suc n) f g agree =
-    count-append f (childrenBefore t q n) (cond (isChild t q n) (n ∷ []) [])
-    ∙ ap₂ _+_ (counts-as t q n f g (λ c l. agree c (omega arith))) (last-as (isChild t q n))
-    ∙ sym (count-append g (childrenBefore t q n) (cond (isChild t q n) (n ∷ []) []))
-  where
-    last-as : (b : Bool) → count f (cond b (n ∷ []) []) ≡ count g (cond b (n ∷ []) [])
-    last-as true = rw (agree n (omega arith))
-    last-as false = refl
 
 module _ {t u : List ℕ} (s : SamePlans t u) where
   -- the children of a plan count the same, by whether they are named
   named-as :
       (p : ℕ) (test : Bool → ℕ → Bool)
       → count (λ c. test (named (entry u c)) c) (children u p) ≡ count (λ c. test (named (entry t c)) c) (children t p)
-  unfolding children
   named-as p test =
       ap (count (λ c. test (named (entry u c)) c)) (children-as s p)
-      ∙ counts-as t p (planCount t) _ _ (λ c l. ap (λ (b : Bool). test b c) (plan-as s named (λ x e. refl) c l))
+      ∙ count-children _ _ t (λ c l. ap (λ (b : Bool). test b c) (plan-as s named (λ x e. refl) c l)) p
 
   at-least-as : (p : ℕ) (f : ℕ → Bool) (m : ℕ) → atLeast u p f m ≡ atLeast t p f m
   at-least-as p f m = ap (leb m) (named-as p (λ b c. b && f c))

@@ -16,7 +16,7 @@ use mathlib.Core.Bool.{
   Bool·not-not,
 }
 use Prim.Native.Nat.{ℕ, _+_, _-_, _*_, _^_}
-use lib.Bits.{bitOr}
+use lib.Bits.{bitAnd, bitOr}
 use lib.Count.{trailingZeros}
 use lib.Dec.{T, eqb}
 use lib.ListN.{getD}
@@ -43,6 +43,8 @@ use Rattle.rules.specs.Step.{
   firstNotDone,
   gateOpen,
   mayActivate,
+  fallback,
+  readyOr,
   tooManyLost,
   allEnded,
   childrenComplete,
@@ -63,7 +65,6 @@ use Rattle.rules.specs.declared.Body.the-variants.{
   OnAbortOrSuspend,
   IfThenElse,
 }
-use Rattle.rules.specs.declared.PlanEntry.{PlanEntry}
 use Rattle.rules.specs.declared.PlanState.{PlanState}
 use Rattle.rules.specs.declared.PlanState.the-variants.{
   Inactive,
@@ -79,6 +80,7 @@ use Rattle.rules.specs.declared.PlanState.the-variants.{
 use Rattle.children.specs.Sets.{setOf}
 use Rattle.children.proofs.Sets.{
   set-or,
+  set-and,
   set-none,
   set-passing,
   set-not-passing,
@@ -252,28 +254,43 @@ module _ {t s : List ℕ} {q : ℕ} where
     pub first-is : eqb (rank t p) 0 ≡ eqb p (firstChild t q)
     first-is = ranked-at t (known .small) q p (child .child) (child .within) 0
 
-    -- the pick where it is Ready, else the lowest Ready child
+    -- the pick where it is Ready
     abbrev ready : ℕ → Bool
     ready c = is Ready (stateAt s c)
-
-    abbrev lowest : ℕ
-    lowest = first ready (children t q)
 
     pub picked-is :
         (picks : ℕ → ℕ) {w : ℕ} → InStates t s q (Ready ∷ []) w → isSet (picks q) w ≡ true
         → eqb (rank t p) (picks q) ≡ eqb p (chosen t s picks q)
-    unfolding chosen
+    unfolding readyOr chosen
     picked-is picks h e =
         ranked-at t (known .small) q p (child .child) (child .within) (picks q)
-        ∙ ap (eqb p) (sym (set-passing t q ready (picks q) lowest (rw (h .word) at e)))
+        ∙ ap (eqb p) (sym (set-passing t q ready (picks q) (fallback t s q) (rw (h .word) at e)))
 
-    pub lowest-is :
-        (picks : ℕ → ℕ) {w : ℕ} → InStates t s q (Ready ∷ []) w → isSet (picks q) w ≡ false
-        → eqb (rank t p) (trailingZeros 64 w) ≡ eqb p (chosen t s picks q)
-    unfolding chosen
-    lowest-is picks h e =
-        rw (h .word) (set-first t (known .small) q p (child .child) (child .within) (known .few) ready)
-        ∙ ap (eqb p) (sym (set-not-passing t q ready (picks q) lowest (rw (h .word) at e)))
+    -- else the lowest that is Ready and named, else the lowest that is Ready
+    module _ (picks : ℕ → ℕ) {w v : ℕ} (h : InStates t s q (Ready ∷ []) w) (names : v ≡ setOf t q (λ c. named (entry t c)))
+        (e : isSet (picks q) w ≡ false) where
+      abbrev mandatory : ℕ → Bool
+      mandatory c = ready c && named (entry t c)
+
+      both : bitAnd w v ≡ setOf t q mandatory
+      both = rw (h .word, names) (set-and t q ready (λ c. named (entry t c)))
+
+      is-mandatory : not (eqb (bitAnd w v) 0) ≡ some mandatory (children t q)
+      is-mandatory = rw both (ap not (set-none t q mandatory) ∙ Bool·not-not (some mandatory (children t q)))
+
+      lowest-of : (f : ℕ → Bool) → eqb (rank t p) (trailingZeros 64 (setOf t q f)) ≡ eqb p (first f (children t q))
+      lowest-of f = set-first t (known .small) q p (child .child) (child .within) (known .few) f
+
+      falls : {b : Bool} → not (eqb (bitAnd w v) 0) ≡ b
+          → chosen t s picks q ≡ cond b (first mandatory (children t q)) (first ready (children t q))
+      unfolding fallback readyOr chosen
+      falls b = set-not-passing t q ready (picks q) (fallback t s q) (rw (h .word) at e) ∙ rw (sym is-mandatory ∙ b)
+
+      pub named-is : eqb (bitAnd w v) 0 ≡ false → eqb (rank t p) (trailingZeros 64 (bitAnd w v)) ≡ eqb p (chosen t s picks q)
+      named-is n = rw (falls (ap not n), both) (lowest-of mandatory)
+
+      pub lowest-is : eqb (bitAnd w v) 0 ≡ true → eqb (rank t p) (trailingZeros 64 w) ≡ eqb p (chosen t s picks q)
+      lowest-is n = rw (falls (ap not n), h .word) (lowest-of ready)
 
 -- which child is due counts only where there are two
 due-counts :

@@ -102,6 +102,7 @@ move-facts t s ranks names sets picks w new facts named n whole p within new-roo
     let entry-room : 8 * p + 16 ≤ length t = omega (arith, facts .long) in
     record {
       facts = facts;
+      named = named .words;
       within = within;
       own = record { entry-room = entry-room; word-room = word-room };
       children =
@@ -112,7 +113,7 @@ move-facts t s ranks names sets picks w new facts named n whole p within new-roo
                   table = rw whole (named .waiting);
                   within = omega arith;
                   names-room = omega (arith, named .room);
-                  collected = named .collected p within;
+                  collected = named .words .collected p within;
                   number = rw whole (named .numbers p within);
                 };
             has-words = record { small = omega (arith, facts .small); sets-room = omega (arith, facts .sets-room) };

@@ -28,11 +28,16 @@ pub record StepFacts (t s ranks sets picks : List ℕ) : Type 0 where
   pub children : (q : ℕ) → q < planCount t → ChildWords t s q sets
   pub picks-small : (q : ℕ) → q < planCount t → picksOf picks q < 64
 
--- for each plan the word of its named children, and behind these how many of them it waits for
+-- for each plan the word of its named children
+pub record NamedWords (t names : List ℕ) : Type 0 where
+  pub room : planCount t ≤ length names
+  pub collected : (q : ℕ) → q < planCount t → getD names q 0 ≡ setOf t q (λ c. named (entry t c))
+
+-- behind these words, how many of its named children each plan waits for
 pub record Names (t names : List ℕ) : Type 0 where
   pub waiting : Waiting t (planCount t)
   pub room : planCount t + planCount t ≤ length names
-  pub collected : (q : ℕ) → q < planCount t → getD names q 0 ≡ setOf t q (λ c. named (entry t c))
+  pub words : NamedWords t names
   pub numbers : (q : ℕ) → q < planCount t → getD names (planCount t + q) 0 ≡ numberAsked t q
 
 -- plan p's entry and word have their place
@@ -49,6 +54,7 @@ pub record OwnChildren (t : List ℕ) (n : ℕ) (names sets : List ℕ) (p : ℕ
 -- all that the move of plan p reads, where `new` has the new states of the plans before it
 pub record MoveFacts (t : List ℕ) (n : ℕ) (s ranks names sets picks w new : List ℕ) (p : ℕ) : Type 0 where
   pub facts : StepFacts t s ranks sets picks
+  pub named : NamedWords t names
   pub within : p < planCount t
   pub own : OwnBytes t w p
   pub children : OwnChildren t n names sets p

@@ -6,8 +6,8 @@ use mathlib.Core.Bool.{Bool, cond, _&&_}
 use mathlib.Core.List.{List, [], _∷_, _++_}
 use lib.Dec.{eqb}
 use Rattle.rules.specs.Lists.{all}
-use Rattle.rules.specs.States.{stateAt, oneOf, is, ended}
-use Rattle.rules.specs.Table.{entry, bodyOf, retryAborted, children, rank}
+use Rattle.rules.specs.States.{stateAt, oneOf, ended}
+use Rattle.rules.specs.Table.{entry, bodyOf, named, retryAborted, children, rank}
 use Rattle.rules.specs.Demands.{SubPlan}
 use Rattle.rules.specs.Words.{word}
 use Rattle.rules.specs.Step.{
@@ -75,11 +75,11 @@ module _ (sets : List ℕ) (q : ℕ) where
   abbrev pub TellsMayActivate : Bool → Bool → Type 0
   TellsMayActivate again r = (t s : List ℕ) → ChildWords t s q sets → again ≡ retryAborted (entry t q) → r ≡ mayActivate t s q
 
-  -- the rank of the child that is chosen under a pick; no child has it where none is Ready
-  abbrev pub TellsChosenRank : ℕ → ℕ → Type 0
-  TellsChosenRank pick r =
-      (t s : List ℕ) (picks : ℕ → ℕ) (p : ℕ) → ChildWords t s q sets → SubPlan t q p → picks q ≡ pick
-      → eqb (rank t p) r ≡ eqb p (chosen t s picks q)
+  -- the rank of the child that is chosen under a pick, by the word of the named children; no child has it where none is Ready
+  abbrev pub TellsChosenRank : ℕ → ℕ → ℕ → Type 0
+  TellsChosenRank names pick r =
+      (t s : List ℕ) (picks : ℕ → ℕ) (p : ℕ) → ChildWords t s q sets → SubPlan t q p → names ≡ setOf t q (λ c. named (entry t c))
+      → picks q ≡ pick → eqb (rank t p) r ≡ eqb p (chosen t s picks q)
 
   -- two children: by the old states of the first and the second, the turn of the first, the branch of if-then-else with a word, whether
   -- the first or the second is considered, and whether both count as ended

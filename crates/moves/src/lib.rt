@@ -17,7 +17,7 @@ ghost use Rattle.moves.specs.Tells.{TellsFirstNotDone, TellsGate, TellsM
 ghost use Rattle.moves.specs.Tells.{unended, keptStates, TellsEachEnded, TellsAllEnded, TellsLost, TellsComplete, TellsWord};
 ghost use Rattle.moves.specs.Tells.{TellsBadTurn, TellsBranch, TellsDue, TellsBothEnded};
 ghost use Rattle.moves.specs.Parents.{parentState, ordersAt};
-ghost use Rattle.moves.specs.StepFacts.{picksOf, StepFacts, OwnBytes, OwnChildren, MoveFacts};
+ghost use Rattle.moves.specs.StepFacts.{picksOf, StepFacts, NamedWords, OwnBytes, OwnChildren, MoveFacts};
 use formulas::wait_for;
 use formulas::waits_for_none;
 use reading::entry_at;
@@ -82,7 +82,7 @@ pub fn next_state(
     // what is left, Activated or Suspended: by the plan's old state
     match state {
         PlanState::Inactive => {
-            if orders(table, ranks, sets, picks, old, words, parent, p).considers {
+            if orders(table, ranks, names, sets, picks, old, words, parent, p).considers {
                 PlanState::Considered
             } else {
                 state
@@ -107,7 +107,7 @@ pub fn next_state(
             }
         }
         PlanState::Ready => {
-            if orders(table, ranks, sets, picks, old, words, parent, p).activates {
+            if orders(table, ranks, names, sets, picks, old, words, parent, p).activates {
                 PlanState::Activated
             } else {
                 state
@@ -144,7 +144,7 @@ pub fn next_state(
         // the plan has ended
         PlanState::Completed | PlanState::Rejected => state,
         PlanState::Aborted => {
-            if orders(table, ranks, sets, picks, old, words, parent, p).retries {
+            if orders(table, ranks, names, sets, picks, old, words, parent, p).retries {
                 PlanState::Considered
             } else {
                 state
@@ -287,6 +287,7 @@ fn after_suspend(body: Body) -> bool
 fn orders(
     table: &[u8],
     ranks: &[u8],
+    names: &[u64],
     sets: &[u64],
     picks: &[u8],
     old: &[u8],
@@ -295,6 +296,7 @@ fn orders(
     p: usize,
 ) -> Orders
     requires facts { ⌜ StepFacts (now table) (now old) (now ranks) (now sets) (now picks) ⌝ }
+    requires named { ⌜ NamedWords (now table) (now names) ⌝ }
     requires plan { ⌜ (p < planCount (now table)) × (4 * p + 4 ≤ length (now words)) ⌝ }
     ensures { λ r. ⌜ r ≡ ordersAt (now (table .entry)) (now (old .entry)) (now (words .entry))
         (Step·chosen (now (table .entry)) (now (old .entry)) (picksOf (now (picks .entry)))) after p ⌝ }
@@ -305,7 +307,7 @@ fn orders(
     let q = parent_at(table, p);
     let before = PlanState::from_byte(old[q]);
     let rank = wide(ranks[p]);
-    let chosen = rank == chosen_rank(sets, q, wide(picks[q]));
+    let chosen = rank == chosen_rank(sets, q, names[q], wide(picks[q]));
     let e = entry_at(table, q);
     orders_if(before, after, e, word_at(words, q), sets, q, rank, chosen)
 }
@@ -451,15 +453,19 @@ fn root_orders() -> Orders
     }
 }
 
-// The rank of the child that an any-order plan q activates under a pick: the Ready child of that rank, else the lowest Ready one; with
-// none, a number that no child has as its rank.
-fn chosen_rank(sets: &[u64], q: usize, pick: u32) -> u32
+// The rank of the child that an any-order plan q, whose named children are the word `named`, activates under a pick: the Ready child of
+// that rank, else the lowest that is Ready and named, else the lowest that is Ready; with none, a number that no child has as its rank.
+fn chosen_rank(sets: &[u64], q: usize, named: u64, pick: u32) -> u32
     requires { ⌜ HasWords (now sets) q × (pick < 64) ⌝ }
-    ensures { λ r. ⌜ TellsChosenRank (now (sets .entry)) q pick r ⌝ }
+    ensures { λ r. ⌜ TellsChosenRank (now (sets .entry)) q named pick r ⌝ }
 {
     let ready = in_state(sets, q, PlanState::Ready);
     if (ready >> pick) % 2 == 1 {
         return pick;
+    }
+    let mandatory = ready & named;
+    if mandatory != 0 {
+        return u64::trailing_zeros(mandatory);
     }
     u64::trailing_zeros(ready)
 }

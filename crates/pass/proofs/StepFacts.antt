@@ -43,7 +43,7 @@ module _ (t s w ranks names : List ℕ) (moves : MayMove t s w ranks names) (n :
       record {
         waiting = waiting t (planCount t) refl (shape .small) (passed .long) (passed .formulas);
         room = moves .prepared .names-room;
-        collected = moves .prepared .collected;
+        words = record { room = omega (arith, moves .prepared .names-room); collected = moves .prepared .collected };
         numbers = moves .prepared .numbers;
       }
 

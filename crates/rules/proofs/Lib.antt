@@ -7,5 +7,6 @@ pub mod Least
 pub mod Outcomes
 pub mod Tree
 pub mod Same
+pub mod Verdicts
 pub mod Broken
 pub mod Unique

@@ -1,7 +1,7 @@
 -- Document 01, 'Answer numbers', as document 02 (i), (ii) and (v) widen them: the number and place of each refusal, those of (iii) and
 -- (vi) among them, and, of documents 01 and 02 (i), (ii), (v), the test behind each, their order in each call, and what each call answers
 -- and leaves. Assumes nothing.
-use Prim.Native.Nat.{ℕ, zero, suc, _+_, _*_, _-_, _%_, _^_, _<_}
+use Prim.Native.Nat.{ℕ, zero, suc, _*_, _-_, _%_, _^_, _<_}
 use mathlib.Core.Bool.{Bool, true, false, cond, not, _&&_, _||_, Bool·beq}
 use mathlib.Core.Path.{_≡_}
 use mathlib.Core.List.{List, map}
@@ -28,10 +28,10 @@ use Rattle.rules.specs.Table.{
 }
 use Rattle.rules.specs.WaitFor.{firstVersion, nodeCount, node, asks, operands, tableSize, isLeaf, uses, owner}
 use Rattle.rules.specs.Words.{word, pickOf, pickAllowed, otherBits, contradicts}
-use Rattle.rules.specs.Step.{step}
+use Rattle.rules.specs.Step.{chosen, step}
 use Rattle.rules.specs.HandedIn.{badState}
 use Rattle.rules.specs.Rest.{leastRest, statesAt}
-use Rattle.rules.specs.Record.{stepSize, stepCount, wordsOf, ExplainedFirst}
+use Rattle.rules.specs.Record.{Choosing, stepSize, stepCount, wordsOf, ExplainedFirstBy}
 use Rattle.rules.specs.declared.Body.{Body}
 use Rattle.rules.specs.declared.Body.the-variants.{Leaf}
 use Rattle.rules.specs.declared.PlanEntry.{PlanEntry}
@@ -345,21 +345,32 @@ module _ (rule : ℕ) (t r : List ℕ) where
   unfolding ruleCheck tableCheck formCheck
   recordCheck = ruleCheck rule andThen tableCheck t andThen formCheck t r
 
+-- As any-order plans choose.
+module _ (choosing : Choosing) (rule : ℕ) (t r : List ℕ) where
   -- step i passes: its words do, and some picks explain all its states
-  pub record StepPasses (i : ℕ) : Type 0 where
+  pub record StepPassesBy (i : ℕ) : Type 0 where
     pub words : wordsCheck t r i ≡ Done
-    pub states : ExplainedFirst rule t r i (planCount t)
+    pub states : ExplainedFirstBy choosing rule t r i (planCount t)
 
   -- the verdicts that are permitted
-  pub data Judged : Verdict → Type 0 where
-    malformed : {why : Refusal} → recordCheck ≡ Refused why → Judged (verdict.Refused why)
+  pub data JudgedBy : Verdict → Type 0 where
+    malformed : {why : Refusal} → recordCheck rule t r ≡ Refused why → JudgedBy (verdict.Refused why)
     badWords :
-        {why : Refusal} (i : ℕ) → recordCheck ≡ Done → i < stepCount t r → ((j : ℕ) → j < i → StepPasses j)
+        {why : Refusal} (i : ℕ) → recordCheck rule t r ≡ Done → i < stepCount t r → ((j : ℕ) → j < i → StepPassesBy j)
         → wordsCheck t r i ≡ Refused why
-        → Judged (verdict.Refused why)
+        → JudgedBy (verdict.Refused why)
     -- 15: p is the lowest plan such that no picks explain plans 0 to p
     unexplained :
-        (i p : ℕ) → recordCheck ≡ Done → i < stepCount t r → ((j : ℕ) → j < i → StepPasses j) → wordsCheck t r i ≡ Done
-        → p < planCount t → ((j : ℕ) → j < p → ExplainedFirst rule t r i (suc j)) → (ExplainedFirst rule t r i (suc p) → ⊥)
-        → Judged (verdict.Refused (Unexplained (suc i) p))
-    accepted : recordCheck ≡ Done → ((i : ℕ) → i < stepCount t r → StepPasses i) → Judged (verdict.Accepted (stepCount t r))
+        (i p : ℕ) → recordCheck rule t r ≡ Done → i < stepCount t r → ((j : ℕ) → j < i → StepPassesBy j) → wordsCheck t r i ≡ Done
+        → p < planCount t → ((j : ℕ) → j < p → ExplainedFirstBy choosing rule t r i (suc j))
+        → (ExplainedFirstBy choosing rule t r i (suc p) → ⊥)
+        → JudgedBy (verdict.Refused (Unexplained (suc i) p))
+    accepted :
+        recordCheck rule t r ≡ Done → ((i : ℕ) → i < stepCount t r → StepPassesBy i)
+        → JudgedBy (verdict.Accepted (stepCount t r))
+
+abbrev pub StepPasses : ℕ → List ℕ → List ℕ → ℕ → Type 0
+StepPasses = StepPassesBy chosen
+
+abbrev pub Judged : ℕ → List ℕ → List ℕ → Verdict → Type 0
+Judged = JudgedBy chosen

@@ -22,6 +22,8 @@ use Rattle.rules.specs.Step.{
   firstNotDone,
   gateOpen,
   mayActivate,
+  fallback,
+  readyOr,
   chosen,
   due,
   orders,
@@ -151,6 +153,11 @@ three : ℕ → List ℕ
 unfolding tableOf leaves
 three body = tableOf 4 body 0 0x20 (leaves 0x20 3)
 
+-- document 02 (vii): an any-order root with three leaves, which have these flags (4: named); all complete when told to
+ranked : ℕ → ℕ → ℕ → List ℕ
+unfolding tableOf entryWith
+ranked f₁ f₂ f₃ = tableOf 4 3 0 0x20 (entryWith 0 0 f₁ 0x20 0 (entryWith 0 0 f₂ 0x20 0 (entryWith 0 0 f₃ 0x20 0 [])))
+
 -- document 02 (v): a table whose plans' bytes 7 name first nodes, with a number of nodes and their bytes; one node; T1 with these flags
 -- and nodes; a root whose formula begins with node 0, three leaves under it, the first two named; a root with two children of which the
 -- first has one, their formulas beginning with nodes 0 and 1
@@ -184,9 +191,13 @@ crossed : List ℕ
 unfolding tableOf entryUnder
 crossed = tableOf 4 4 0 0 (entryUnder 0 4 0 (entryUnder 0 0 0 (entryUnder 1 0 0 [])))
 
--- three states as document 01 writes them (000 is the number 0), and three words
+-- three states as document 01 writes them (000 is the number 0), four, and three words
 unfoldable pub states : ℕ → List ℕ
 states n = n / 100 ∷ n / 10 % 10 ∷ n % 10 ∷ []
+
+fourStates : ℕ → List ℕ
+unfolding states
+fourStates n = n / 1000 ∷ states (n % 1000)
 
 bytes : ℕ → List ℕ
 bytes x = x % 256 ∷ x / 256 % 256 ∷ x / 65536 % 256 ∷ x / 2 ^ 24 ∷ []
@@ -212,6 +223,8 @@ new = 2 ∷ []
 pub data Row : Type 0 where
   -- one step that is done: rules, table, states, words, new states
   rowStep : List ℕ → List ℕ → ℕ → List ℕ → ℕ → Row
+  -- one step that is done, by both rules: a table of a root and three leaves, four states, the root's pick, four new states
+  rowChooses : List ℕ → ℕ → ℕ → ℕ → Row
   -- a run from the states under a budget, behind rules and table: rested after so many steps, with these states
   rowRests : List ℕ → List ℕ → ℕ → ℕ → ℕ → ℕ → Row
   -- a run from the states under a budget: still moving, with these states
@@ -261,9 +274,12 @@ isRefusedRun number plan rest.Moving = false
 isRefusedRun number plan (rest.Refused why) = isPlaced number plan why
 
 holdsIn : Row → Bool
-unfolding states words idle isRested isMoving isAccepted isRefused isRefusedRun
+unfolding states fourStates bytes words idle isRested isMoving isAccepted isRefused isRefusedRun
 holdsIn (rowStep rules t from w to) =
     all (λ rule. isDone (stepAnswer rule t (states from) w) && same (stepStates rule t (states from) w) (states to)) rules
+holdsIn (rowChooses t from pick to) =
+    let w : List ℕ = bytes (pick * 2 ^ 24) ++ idle in
+    all (λ rule. isDone (stepAnswer rule t (fourStates from) w) && same (stepStates rule t (fourStates from) w) (fourStates to)) both
 holdsIn (rowRests rules t from budget k to) =
     all (λ rule.
     isRested k (runAnswer rule t (states from) idle budget) && same (runStates rule t (states from) idle budget) (states to)) rules
@@ -506,6 +522,33 @@ retries =
     ∷ rowRefuses (0 ∷ 3 ∷ 4294967295 ∷ []) T1 444 idle 17 0
     ∷ [])
 
+-- document 02 (vii): the any-order choice. The flags are those of the children of rank 0, 1 and 2; 4 is named
+choices : List Row
+unfolding ranked inVersion2 node
+choices =
+    -- the pick is not Ready: the named one, though a lower one is Ready too; of two named ones the lower; with none the lowest
+    rowChooses (ranked 0 0 4) 4233 0 4334
+    ∷ rowChooses (ranked 0 4 0) 4233 0 4343
+    ∷ rowChooses (ranked 0 4 4) 4233 0 4343
+    ∷ rowChooses (ranked 0 0 0) 4233 0 4343
+    -- wherever the pick stands
+    ∷ rowChooses (ranked 0 4 0) 4332 2 4343
+    ∷ rowChooses (ranked 0 0 4) 4383 1 4384
+    -- a named one that is not Ready counts for nothing, be it the pick or not
+    ∷ rowChooses (ranked 4 0 0) 4233 0 4343
+    ∷ rowChooses (ranked 0 4 0) 4223 0 4334
+    ∷ rowChooses (ranked 4 0 0) 4633 0 4643
+    -- the pick is Ready: it is taken, named or not, whatever else is
+    ∷ rowChooses (ranked 0 0 4) 4333 0 4433
+    ∷ rowChooses (ranked 4 0 0) 4333 1 4343
+    ∷ rowChooses (ranked 4 4 4) 4333 2 4334
+    -- nobody is Ready: nobody is taken; beside one in execution nobody is
+    ∷ rowChooses (ranked 0 0 4) 4222 0 4333
+    ∷ rowChooses (ranked 0 0 4) 4433 0 4433
+    -- in version 2 as in version 1
+    ∷ rowChooses (inVersion2 (ranked 0 0 4) 1 (node 5 0 0)) 4233 0 4334
+    ∷ []
+
 -- rows of our own: refusals
 ourRefusals : List Row
 unfolding T1 T1With T1Of sequential crossed star words idle
@@ -671,17 +714,18 @@ ourWords =
     ∷ []
 
 pub table : List Row
-unfolding marked unmarked ourMoves badTurns badTurnsRefused retries ourRefusals ourShows ourFormulas ourWaits badFormulas ourEnds ourWords
+unfolding
+    marked unmarked ourMoves badTurns badTurnsRefused retries choices ourRefusals ourShows ourFormulas ourWaits badFormulas ourEnds ourWords
 table =
-    marked ++ unmarked ++ ourMoves ++ badTurns ++ badTurnsRefused ++ retries ++ ourRefusals ++ ourShows ++ ourFormulas ++ ourWaits
-    ++ badFormulas ++ ourEnds ++ ourWords
+    marked ++ unmarked ++ ourMoves ++ badTurns ++ badTurnsRefused ++ retries ++ choices ++ ourRefusals ++ ourShows ++ ourFormulas
+    ++ ourWaits ++ badFormulas ++ ourEnds ++ ourWords
 
 pub rowsHold : allHold table ≡ true
 unfolding
     allHold table T1Of states leaves leastFrom someBelow highest stateAt childrenBefore children rank isOrIsAbove formulaHolds
     waitFor firstNodes askedNodes uses ownerWithin owner holds satisfiable
-    move tooManyLost allEnded childrenComplete firstNotDone gateOpen mayActivate chosen due orders stepFirst stepBy stepUnder step badState
-    after leastRest badParent undefinedEntry unfitEntry undefinedByte unfit tooMany strayFirst badBytes badNode badRank formulasCheck
-    asksTooMany badWait _andThen_ refuseIf refuseAt headerCheck ruleCheck tableCheck badWord callCheck tableVerdict runAnswer runStates
-    lastDescendant subTree decimalTo tableLength
+    move tooManyLost allEnded childrenComplete firstNotDone gateOpen mayActivate fallback readyOr chosen due orders
+    stepFirst stepBy stepUnder step badState after leastRest badParent undefinedEntry unfitEntry undefinedByte unfit tooMany
+    strayFirst badBytes badNode badRank formulasCheck asksTooMany badWait _andThen_ refuseIf refuseAt headerCheck ruleCheck tableCheck
+    badWord callCheck tableVerdict runAnswer runStates lastDescendant subTree decimalTo tableLength
 rowsHold = refl

@@ -7,14 +7,22 @@ use lib.Dec.{T}
 use Rattle.rules.specs.States.{code}
 use Rattle.rules.specs.Table.{planCount, entry, bodyOf, children}
 use Rattle.rules.specs.Words.{pickAllowed}
-use Rattle.rules.specs.Step.{stepUnder}
+use Rattle.rules.specs.Step.{chosen, stepBy}
 use Rattle.rules.specs.declared.PlanState.the-variants.{Inactive}
 
+-- How any-order plans choose: by table, old states and picks, the plan that each would activate. Wherever it is not said, as `chosen`: only
+-- the theorem of document 02 (vii) sets another way beside it.
+abbrev pub Choosing : Type 0
+Choosing = List ℕ → List ℕ → (ℕ → ℕ) → ℕ → ℕ
+
 -- Some picks that words may hold lead by a rule from the states s, under the words w, to the states shown, as far as the first k plans go.
-pub record Explained (rule : ℕ) (t s w shown : List ℕ) (k : ℕ) : Type 0 where
+pub record ExplainedBy (choosing : Choosing) (rule : ℕ) (t s w shown : List ℕ) (k : ℕ) : Type 0 where
   pub pick : ℕ → ℕ
   pub allowed : (q : ℕ) → q < planCount t → T (pickAllowed (bodyOf (entry t q)) (length (children t q)) (pick q))
-  pub agrees : take k (stepUnder rule t s w pick) ≡ take k shown
+  pub agrees : take k (stepBy rule t s w (choosing t s pick)) ≡ take k shown
+
+abbrev pub Explained : ℕ → List ℕ → List ℕ → List ℕ → List ℕ → ℕ → Type 0
+Explained = ExplainedBy chosen
 
 -- A treatment record r under a table t. Its steps i are counted from 0 here; an answer names step i as i + 1.
 module _ (t r : List ℕ) where
@@ -38,5 +46,8 @@ module _ (t r : List ℕ) where
   statesBefore (suc i) = statesOf i
 
 -- by a rule, some picks explain the first k plans in step i
+abbrev pub ExplainedFirstBy : Choosing → ℕ → List ℕ → List ℕ → ℕ → ℕ → Type 0
+ExplainedFirstBy choosing rule t r i k = ExplainedBy choosing rule t (statesBefore t r i) (wordsOf t r i) (statesOf t r i) k
+
 abbrev pub ExplainedFirst : ℕ → List ℕ → List ℕ → ℕ → ℕ → Type 0
-ExplainedFirst rule t r i k = Explained rule t (statesBefore t r i) (wordsOf t r i) (statesOf t r i) k
+ExplainedFirst = ExplainedFirstBy chosen

@@ -1,5 +1,5 @@
--- Document 01, 'One step', with the bodies of document 02 (i) and the rules of (ii): what children's states mean to a plan, what each body
--- orders, one move, one step. Assumes nothing.
+-- Document 01, 'One step', with the bodies of document 02 (i), the rules of (ii) and the fallback of (vii): what children's states mean to
+-- a plan, what each body orders, one move, one step. Assumes nothing.
 use Prim.Native.Nat.{ℕ, zero, suc}
 use mathlib.Core.Bool.{Bool, true, false, cond, not, _&&_, _||_}
 use mathlib.Core.List.{List, [], _∷_, _++_}
@@ -14,6 +14,7 @@ use Rattle.rules.specs.Table.{
   bodyOf,
   isBody,
   ofTwo,
+  named,
   retryAborted,
   waitForOptional,
   children,
@@ -178,13 +179,24 @@ module _ (t s : List ℕ) where
       not (some (λ c. inExecution (stateAt s c)) (children t q))
       && not (retryAborted (entry t q) && some (λ c. is Aborted (stateAt s c)) (children t q))
 
-  -- any-order: the Ready child whose rank is the pick, else the Ready child of lowest rank; `noPlan` where no child is Ready.
-  -- A pick is a rank; what is chosen is a plan
+  -- any-order, where the pick is not Ready (document 02 (vii)): the Ready child of lowest rank among the named ones, and only if there is
+  -- none the lowest of the rest; `noPlan` where no child is Ready
+  unfoldable pub fallback : ℕ → ℕ
+  fallback q =
+      let ready : ℕ → Bool = (λ c. is Ready (stateAt s c)) in
+      let readyNamed : ℕ → Bool = (λ c. ready c && named (entry t c)) in
+      cond (some readyNamed (children t q)) (first readyNamed (children t q)) (first ready (children t q))
+
+  -- the Ready child of q of a rank, else another plan, which is handed in
+  unfoldable pub readyOr : ℕ → ℕ → ℕ → ℕ
+  readyOr other k q =
+      let picked : ℕ = getD (children t q) k other in
+      cond (is Ready (stateAt s picked)) picked other
+
+  -- any-order: the Ready child whose rank is the pick, else the fallback. A pick is a rank; what is chosen is a plan
   unfoldable pub chosen : (ℕ → ℕ) → ℕ → ℕ
-  chosen pick q =
-      let lowest : ℕ = first (λ c. is Ready (stateAt s c)) (children t q) in
-      let picked : ℕ = getD (children t q) (pick q) lowest in
-      cond (is Ready (stateAt s picked)) picked lowest
+  unfolding fallback readyOr
+  chosen pick q = readyOr (fallback q) (pick q) q
 
   -- two children: plan q, whose word is x, considers its child p
   unfoldable pub due : ℕ → ℕ → ℕ → Bool

@@ -20,7 +20,7 @@ returns c = rw (c .before .if1 .taken) (c .root-orders .ensures)
 
 -- where the parent's number is known: the start, and that it is the number of a lower plan
 abbrev start-of : tie.After-parent-at → tie.Start
-start-of c = c .before .before .before .before .before .before .before .before
+start-of c = c .before .before .before .before .before .before .before .before .before
 
 child : (c : tie.After-parent-at) → 0 < start-of c .args .p
 child c = omega (arith, c .before .if1 .left)
@@ -28,7 +28,7 @@ child c = omega (arith, c .before .if1 .left)
 inside : (c : tie.After-parent-at) → c .parent-at .result < planCount (now (start-of c .args .table))
 inside c =
     let pre = start-of c .pre in
-    omega (arith, c .parent-at .ensures, pre .0 .down _ (child c) (pre .1 .0), pre .1 .0)
+    omega (arith, c .parent-at .ensures, pre .0 .down _ (child c) (pre .1 .1 .0), pre .1 .1 .0)
 
 has-words : (c : tie.After-parent-at) → HasWords (now (start-of c .args .sets)) (c .parent-at .result)
 has-words c =
@@ -38,35 +38,43 @@ has-words c =
 shared-slice-read-from-byte : tie.Need-shared-slice-read-from-byte
 shared-slice-read-from-byte c = omega (arith, inside (c .before), start-of (c .before) .pre .0 .states-room)
 
+mul-chosen-rank : tie.Need-mul-chosen-rank
+mul-chosen-rank c = let up = c .before .before .before .before in omega (arith, inside up, start-of up .pre .0 .small)
+
+shared-slice-read-chosen-rank : tie.Need-shared-slice-read-chosen-rank
+shared-slice-read-chosen-rank c =
+    let up = c .before .before .before .before .before in
+    omega (arith, inside up, start-of up .pre .1 .0 .room)
+
 shared-slice-read-wide-2 : tie.Need-shared-slice-read-wide-2
 shared-slice-read-wide-2 c =
-    let up = c .before .before .before .before .before in
+    let up = c .before .before .before .before .before .before in
     omega (arith, inside up, start-of up .pre .0 .picks-room)
 
 chosen-rank-requires : tie.Need-chosen-rank-requires
 chosen-rank-requires c κs =
-    let up = c .before .before .before .before .before .before in
+    let up = c .before .before .before .before .before .before .before in
     (has-words up, omega (arith, c .wide2 .ensures, start-of up .pre .0 .picks-small _ (inside up)))
 
 entry-at-requires : tie.Need-entry-at-requires
 entry-at-requires c κs =
-    let up = c .before .before .before .before .before .before .before in
+    let up = c .before .before .before .before .before .before .before .before in
     omega (arith, inside up, start-of up .pre .0 .long)
 
 word-at-requires : tie.Need-word-at-requires
 word-at-requires c κs =
-    let up = c .before .before .before .before .before .before .before .before in
+    let up = c .before .before .before .before .before .before .before .before .before in
     let pre = start-of up .pre in
-    omega (arith, up .parent-at .ensures, pre .0 .down _ (child up) (pre .1 .0), pre .1 .1)
+    omega (arith, up .parent-at .ensures, pre .0 .down _ (child up) (pre .1 .1 .0), pre .1 .1 .1)
 
 returns-2 : tie.Need-returns-2
 returns-2 c =
     let entry = c .before .before in
     let read = entry .before .before in
-    let up = read .before .before .before .before .before .before in
+    let up = read .before .before .before .before .before .before .before in
     let start = start-of up in
     let facts = start .pre .0 in
-    let within = start .pre .1 .0 in
+    let within = start .pre .1 .1 .0 in
     let w = now (start .args .words) in
     let t = now (start .args .table) in
     let s = now (start .args .old) in
@@ -78,14 +86,14 @@ returns-2 c =
     let ranked : RankedChild t q p _ =
     record {
       child = child-of t q p (child up) within is-parent;
-      ranked = read .before .before .wide .ensures ∙ facts .ranked p within;
+      ranked = read .before .before .before .wide .ensures ∙ facts .ranked p within;
     }
     in
     let rank = entry .before .chosen-rank in
     let picked =
     ap (λ (k : ℕ). eqb k (rank .result)) (ranked .ranked)
-    ∙ rank .ensures t s picks p known (ranked .child) (sym (read .wide2 .ensures)) in
-    let before = read .before .before .before .before .from-byte .ensures ∙ sym (state-is s q) in
+    ∙ rank .ensures t s picks p known (ranked .child) (start .pre .1 .0 .collected q (inside up)) (sym (read .wide2 .ensures)) in
+    let before = read .before .before .before .before .before .from-byte .ensures ∙ sym (state-is s q) in
     c .orders-if .ensures t s w (chosen t s picks) p known ranked (entry .entry-at .ensures) (c .before .word-at .ensures) picked
     ∙ child-orders t s w (chosen t s picks) _ (start .args .after) q p (child up) is-parent before
 
@@ -100,10 +108,12 @@ orders-spec =
     (λ c κs. search needs)
     (λ c. search needs)
     (λ c κs. search needs)
+    mul-chosen-rank
+    shared-slice-read-chosen-rank
     shared-slice-read-wide-2
     (λ c κs. search needs)
     chosen-rank-requires
     entry-at-requires
     word-at-requires
-    (λ c κs. has-words (c .before .before .before .before .before .before .before .before .before))
+    (λ c κs. has-words (c .before .before .before .before .before .before .before .before .before .before))
     returns-2)
