@@ -102,8 +102,11 @@
  *   reactivate. It does not complete while it is Suspended.
  * - The pick moves something only where an any-order plan may activate a child (number 12 reads it always): the plan was Activated and
  *   stays so, none of its children was in execution and, with retry-aborted, none was Aborted. If the child of that rank was Ready, it
- *   is activated; if it was not, the pick counts for nothing and the Ready child of lowest rank is activated. So a pick of 0, which is
- *   that of an empty word, is a pick too, and a child cannot be held back by picking one that is not Ready.
+ *   is activated, be it named or not. If it was not, the pick counts for nothing, and the plan falls back on the Ready child of lowest rank
+ *   among the named ones, or, where no named one was Ready, on the Ready child of lowest rank. So a pick of 0, which is that of an empty
+ *   word, is a pick too, and a child cannot be held back by picking one that is not Ready. Named are the children with ASBRU_NAMED, in
+ *   version 2 too, whatever the formula asks. Up to ASBRU_VERSION 6 a plan fell back on the Ready child of lowest rank, named or not: a
+ *   host that wants that child picks it. asbru_check accepts what some picks explain, so that no verdict changed.
  * - The second child of an on-abort, on-suspend or on-abort-or-suspend plan is considered in a step before which the first was Aborted,
  *   Suspended, or one of the two; as every order, only where the plan was Activated and stays so. So a suspension that is over after one
  *   step is enough, and the second then goes on beside the first; but one that the first shares with its plan is none if both are
@@ -183,7 +186,7 @@ extern "C" {
 #endif
 
 /* Raised by one whenever a function, a format, a number or a rule changes: CHANGELOG.md says how. */
-#define ASBRU_VERSION 6
+#define ASBRU_VERSION 7
 
 /* Limits, and the sizes of what buffers hold. */
 enum asbru_size {
