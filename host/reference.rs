@@ -1,11 +1,12 @@
 //! A slow and plain implementation of document 01, "Requirements and rules for the build", and of
-//! requests (i), (ii), (v) and (vi) of document 02, "Bodies for the bad turn", "A retried step should not
-//! sink its parent", "Wait for this or both of those" and "Moving the library of tables".
+//! requests (i), (ii), (v), (vi) and (vii) of document 02, "Bodies for the bad turn", "A retried step should
+//! not sink its parent", "Wait for this or both of those", "Moving the library of tables" and "Do the
+//! mandatory one first".
 //!
 //! It is written to be read beside the documents: in the order of document 01, in their words, one
 //! small function for each rule. A sentence in quotation marks is document 01's own; behind "02 (i):",
-//! "02 (ii):", "02 (v):" or "02 (vi):" it is that request's. Nothing here is clever; where a rule can be
-//! looked up again by walking over the whole table, it is.
+//! "02 (ii):" and so on it is that request's. Nothing here is clever; where a rule can be looked up again
+//! by walking over the whole table, it is.
 //!
 //! Tests, among them the brute-force search over all picks, are in self_test.rs.
 
@@ -646,7 +647,10 @@ fn any_order_orders(before: &Before, p: usize, parent: usize, pick: usize) -> Or
 }
 
 /// "only if no child is in execution and, with retry-aborted, none is Aborted: the Ready child
-/// whose rank is the pick, else the Ready child of lowest rank"
+/// whose rank is the pick", be it named or not. 02 (vii): "Where the pick is not Ready, an any-order plan
+/// now takes the Ready child of lowest rank among the named ones, and only if there is none the lowest of
+/// the rest." Named is the flag in the child's own entry: so it is by both rules, and in version 2 too,
+/// whether the plan's formula asks for that child or not.
 fn child_activated_in_any_order(before: &Before, parent: usize, pick: usize) -> Option<usize> {
     let plan = &before.plans[parent];
     let is = |child: usize, wanted: u8| before.states[child] == wanted;
@@ -656,9 +660,11 @@ fn child_activated_in_any_order(before: &Before, parent: usize, pick: usize) -> 
     if plan.retries_aborted() && plan.children.iter().any(|&child| is(child, ABORTED)) {
         return None;
     }
-    let picked = plan.children.get(pick).copied().filter(|&child| is(child, READY));
-    let lowest = plan.children.iter().copied().find(|&child| is(child, READY));
-    picked.or(lowest)
+    let ready: Vec<usize> = plan.children.iter().copied().filter(|&child| is(child, READY)).collect();
+    let picked = plan.children.get(pick).copied().filter(|child| ready.contains(child));
+    let lowest_named = ready.iter().copied().find(|&child| before.plans[child].is_named());
+    let lowest = ready.first().copied();
+    picked.or(lowest_named).or(lowest)
 }
 
 /// 02 (i): "In 5 to 7 the first child is run as in an unordered body; the second is considered once

@@ -463,28 +463,28 @@ fn small_case(dice: &mut Dice, most_plans: usize) -> (Vec<Plan>, Vec<u8>, Vec<u3
 }
 
 /// Two or three any-order plans that go on side by side below an unordered root, or two below one of
-/// the bodies under which two can, most of them with several Ready children: here the picks of
-/// different plans could get into each other's way.
+/// the bodies under which two can, most of them with several Ready children, named or not: here the
+/// picks of different plans could get into each other's way.
 fn case_with_choices(dice: &mut Dice) -> (Vec<Plan>, Vec<u8>, Vec<u32>) {
     let mut table = Vec::new();
     let mut states = vec![reference::ACTIVATED];
-    let mut add_plan = |parent: usize, body: u8, retry: bool| {
+    let mut add_plan = |parent: usize, body: u8, flags: u8| {
         table.extend((parent as u16).to_le_bytes());
         // Complete is present and never satisfied where there are children, so that they go on.
         let present = if body == reference::LEAF { 0 } else { 1 << reference::COMPLETE };
-        table.extend([body, u8::from(retry), present, 0, 0, 0]);
+        table.extend([body, flags, present, 0, 0, 0]);
         table.len() / 8 - 1
     };
     let for_two = dice.one_of(&[reference::ON_SUSPEND, reference::ON_ABORT_OR_SUSPEND]);
     let body = if dice.percent(25) { for_two } else { reference::UNORDERED };
-    let root = add_plan(reference::NO_PARENT, body, false);
+    let root = add_plan(reference::NO_PARENT, body, 0);
     for rank in 0..if reference::is_for_two(body) { 2 } else { dice.between(2, 3) } {
-        let chooser = add_plan(root, reference::ANY_ORDER, dice.percent(30));
+        let chooser = add_plan(root, reference::ANY_ORDER, u8::from(dice.percent(30)) << reference::RETRY_ABORTED);
         // Beside a first child that has not begun, the second of a body for two is Inactive.
         let may_begin = !reference::is_for_two(body) || rank == 0 || states[1] != reference::READY;
         states.push(if may_begin { dice.one_of(&[4, 4, 4, 4, 5, 3]) } else { 0 });
         for _ in 0..dice.between(1, 4) {
-            add_plan(chooser, reference::LEAF, false);
+            add_plan(chooser, reference::LEAF, u8::from(dice.percent(50)) << reference::NAMED);
             let may_begin = reference::in_execution(states[chooser]);
             states.push(if may_begin { dice.one_of(&[3, 3, 3, 3, 3, 2, 6, 7, 8]) } else { 0 });
         }
@@ -1222,4 +1222,127 @@ fn moved_tables_make_the_same_steps_and_judge_records_alike() {
     }
     println!("steps that a wait-for decides: {decided}; records accepted {}, refused {}", verdicts[0], verdicts[1]);
     assert!(decided > 500 && verdicts.into_iter().all(|count| count > 500));
+}
+
+// ------------------------------------------------------------------------------------------------
+// Request (vii) of document 02: the child that is taken where the pick is not Ready
+// ------------------------------------------------------------------------------------------------
+
+/// An any-order root and a leaf for each of these, which says whether it is named. Each of them ends only when told to. Of version 1 with
+/// m 0, the same in version 2, and in version 2 with a formula that holds too and asks for a child by its rank.
+fn any_order_tables(flags: u8, named: &[bool]) -> [Vec<u8>; 3] {
+    let mut table = vec![b'A', b'P', b'T', 1, 0, named.len() as u8 + 1, 0, 0];
+    table.extend([255, 255, 3, flags, 32, 0, 0, 0]);
+    for &named in named {
+        table.extend([0, 0, 0, u8::from(named) << 2, 32, 0, 0, 0]);
+    }
+    let in_2 = moved(To::Version2, &table);
+    let by_rank = with_nodes(changed(&table, &[(3, 2)]), &[[3, 1, 2, 0], CHILD_0, [5, 0, 0, 0]]);
+    [table, in_2, by_rank]
+}
+
+/// The ranks of the Ready children that are Activated after a step of an Activated plan with this pick.
+fn activated(rule: u32, table: &[u8], children: &[u8], pick: usize) -> Vec<usize> {
+    let mut states = [&[4], children].concat();
+    let words: Vec<u8> = (0..states.len()).flat_map(|p| if p == 0 { (pick as u32) << 24 } else { 0 }.to_le_bytes()).collect();
+    assert_eq!(reference::step(rule, table, &mut states, &words), 0);
+    assert_eq!(states[0], 4);
+    (0..children.len()).filter(|&rank| children[rank] == 3 && states[rank + 1] == 4).collect()
+}
+
+/// By both rules, and in each of the tables.
+fn expect_activated(flags: u8, named: [bool; 4], children: [u8; 4], pick: usize, expected: &[usize]) {
+    for rule in [1, 2] {
+        for table in any_order_tables(flags, &named) {
+            assert_eq!(activated(rule, &table, &children, pick), expected, "rule {rule}, {children:?}, named {named:?}, pick {pick}");
+        }
+    }
+}
+
+const NAMED: bool = true;
+const OTHER: bool = false;
+
+#[test]
+fn a_ready_pick_is_taken_whoever_is_named() {
+    // not named, though one that is named is Ready; with and without a lower one that is
+    expect_activated(0, [OTHER, NAMED, OTHER, OTHER], [3, 3, 3, 3], 2, &[2]);
+    expect_activated(0, [OTHER, OTHER, OTHER, NAMED], [3, 3, 3, 3], 0, &[0]);
+    expect_activated(0, [OTHER, OTHER, OTHER, NAMED], [2, 6, 3, 3], 2, &[2]);
+    // named, though a lower one is Ready, named or not
+    expect_activated(0, [NAMED, OTHER, OTHER, NAMED], [3, 3, 3, 3], 3, &[3]);
+    expect_activated(0, [OTHER, OTHER, NAMED, OTHER], [3, 3, 3, 3], 2, &[2]);
+    // none is named
+    expect_activated(0, [OTHER, OTHER, OTHER, OTHER], [3, 3, 3, 3], 3, &[3]);
+}
+
+#[test]
+fn where_the_pick_is_not_ready_the_lowest_named_one_is_taken() {
+    // the lowest Ready one is not named, and a higher one is
+    expect_activated(0, [OTHER, OTHER, NAMED, OTHER], [3, 2, 3, 3], 1, &[2]);
+    expect_activated(0, [OTHER, OTHER, OTHER, NAMED], [6, 3, 3, 3], 0, &[3]);
+    expect_activated(0, [OTHER, NAMED, OTHER, OTHER], [3, 3, 3, 8], 3, &[1]);
+    // two named ones: the lower
+    expect_activated(0, [OTHER, OTHER, NAMED, NAMED], [3, 2, 3, 3], 1, &[2]);
+    expect_activated(0, [NAMED, NAMED, OTHER, NAMED], [8, 3, 3, 3], 0, &[1]);
+    expect_activated(0, [NAMED, NAMED, NAMED, NAMED], [3, 3, 3, 7], 3, &[0]);
+    // no Ready one is named: the lowest
+    expect_activated(0, [OTHER, OTHER, OTHER, OTHER], [2, 3, 3, 3], 0, &[1]);
+    expect_activated(0, [OTHER, OTHER, OTHER, OTHER], [3, 3, 3, 1], 3, &[0]);
+}
+
+#[test]
+fn a_named_one_that_is_not_ready_counts_for_nothing() {
+    // neither the pick nor another one, lower or higher
+    expect_activated(0, [NAMED, OTHER, OTHER, NAMED], [2, 3, 3, 8], 0, &[1]);
+    expect_activated(0, [NAMED, OTHER, OTHER, NAMED], [6, 3, 3, 1], 3, &[1]);
+    expect_activated(0, [NAMED, NAMED, OTHER, NAMED], [7, 2, 3, 3], 0, &[3]);
+    // nothing is Ready
+    for pick in 0..4 {
+        expect_activated(0, [NAMED, OTHER, NAMED, OTHER], [2, 1, 6, 8], pick, &[]);
+        expect_activated(0, [OTHER, OTHER, OTHER, OTHER], [0, 0, 7, 8], pick, &[]);
+    }
+}
+
+/// "only if no child is in execution and, with retry-aborted, none is Aborted": a named one waits as any other does.
+#[test]
+fn a_named_one_waits_too() {
+    for pick in 0..4 {
+        for running in [4, 5] {
+            expect_activated(0, [OTHER, NAMED, NAMED, OTHER], [running, 3, 3, 3], pick, &[]);
+            expect_activated(0, [OTHER, NAMED, NAMED, OTHER], [3, 3, 3, running], pick, &[]);
+        }
+        expect_activated(1, [OTHER, NAMED, NAMED, OTHER], [7, 3, 3, 3], pick, &[]);
+    }
+    expect_activated(0, [OTHER, OTHER, NAMED, OTHER], [7, 3, 3, 3], 0, &[2]);
+}
+
+/// Three leaves, the last of them named; the first has ended when the next one is taken. The words are idle, so that the pick is 0.
+#[test]
+fn runs_and_records_where_the_pick_is_not_ready() {
+    let [table, in_2, by_rank] = any_order_tables(0, &[OTHER, OTHER, NAMED]);
+    let begun = [[1, 0, 0, 0], [2, 0, 0, 0], [3, 0, 0, 0], [4, 0, 0, 0], [4, 1, 1, 1], [4, 2, 2, 2], [4, 3, 3, 3], [4, 4, 3, 3]];
+    let record = |last: [u8; 4]| {
+        let mut record = b"APR\x01\x00\x04\x00\x00".to_vec();
+        for states in begun.into_iter().chain([[4, 6, 3, 3], last]) {
+            record.extend([0; 16]);
+            record.extend(states);
+        }
+        // step 9: complete on plan 1
+        record[8 + 20 * 8 + 4] = 32;
+        record
+    };
+    for table in [table, in_2, by_rank] {
+        for rule in [1, 2] {
+            for rest in [reference::rest, reference::rest_jumping] {
+                let mut states = [4, 6, 3, 3];
+                assert_eq!(rest(rule, &table, &mut states, &[0; 16], 9), answer(0, 0, 1));
+                assert_eq!(states, [4, 6, 3, 4]);
+            }
+            // a record shows either one, and not both or none, as it did before
+            let rows = [([4, 6, 4, 3], answer(0, 0, 10)), ([4, 6, 3, 4], answer(0, 0, 10)), ([4, 6, 4, 4], answer(15, 3, 10))];
+            for (last, expected) in rows.into_iter().chain([([4, 6, 3, 3], answer(15, 3, 10))]) {
+                assert_eq!(reference::check(rule, &table, &record(last)), expected);
+            }
+        }
+    }
 }
