@@ -286,12 +286,17 @@ static void survey(const Plan *plans, unsigned n, const uint8_t *old, const uint
     }
 }
 
-/* The picks' choices: the Ready child of that rank, else the lowest Ready one. */
+/* What a Ready child has for it where one is chosen: most that it is the pick, else that it is named. */
+static inline unsigned claim(const Plan *e, unsigned pick) {
+    return e->rank == pick ? 2 * NAMED : e->flags & NAMED;
+}
+
+/* The picks' choices: the Ready child of that rank, else the lowest Ready one that is named, else the lowest Ready one. */
 static void choose(const Plan *plans, unsigned n, const uint8_t *old, const uint8_t *words, Survey *s) {
     for (unsigned p = 1; p < n; p++) {
         if (old[p] != READY) continue;
-        unsigned q = plans[p].parent;
-        if (!s->choice[q] || plans[p].rank == (word_of(words, q) >> 24 & 63)) s->choice[q] = (uint16_t)p;
+        unsigned q = plans[p].parent, c = s->choice[q], pick = word_of(words, q) >> 24 & 63;
+        if (!c || claim(plans + p, pick) > claim(plans + c, pick)) s->choice[q] = (uint16_t)p;
     }
 }
 
