@@ -414,7 +414,7 @@ fn plans_of_losses(dice: &mut Dice, n: usize, shape: Shape) -> Vec<u8> {
 
 /// Whether the two rules could differ on a plan: it retries and waits for some of its children.
 pub fn may_part_the_rules(plan: &Plan) -> bool {
-    plan.flags >> reference::RETRY_ABORTED & 1 == 1 && plan.wait_for != Formula::AtLeast(0)
+    plan.retries_aborted() && plan.wait_for != Formula::AtLeast(0)
 }
 
 fn read_good_table(table: &[u8]) -> Vec<Plan> {

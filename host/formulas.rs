@@ -171,7 +171,7 @@ impl Asked<'_> {
     }
 
     fn is_named(&self, child: usize) -> bool {
-        self.plans[child].flags >> reference::NAMED & 1 == 1
+        self.plans[child].is_named()
     }
 
     fn what_of_child(&self, rank: usize) -> String {

@@ -124,7 +124,7 @@ pub fn count_moves(lines: &mut [Lines; 2], before: &Before, new: &[u8]) {
         if reference::condition_holds(plan, before.words[p], reference::ABORT) {
             continue;
         }
-        let retries = plan.flags >> reference::RETRY_ABORTED & 1 == 1;
+        let retries = plan.retries_aborted();
         let [lines_apart, lines_alike] = lines;
         let is_aborted = if new[p] == reference::ABORTED { ABORTED } else { NOT_ABORTED };
         match wait_for {
@@ -140,7 +140,7 @@ pub fn count_moves(lines: &mut [Lines; 2], before: &Before, new: &[u8]) {
 
 /// None without such a child.
 fn wait_for(before: &Before, p: usize) -> Option<WaitFor> {
-    let is_named = |child: usize| before.plans[child].flags >> reference::NAMED & 1 == 1;
+    let is_named = |child: usize| before.plans[child].is_named();
     let children = &before.plans[p].children;
     let aborted: Vec<usize> = children.iter().copied().filter(|&child| before.states[child] == reference::ABORTED).collect();
     if aborted.is_empty() {

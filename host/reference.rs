@@ -122,7 +122,7 @@ impl Plan {
         (self.children[0], self.children[1])
     }
 
-    fn retries_aborted(&self) -> bool {
+    pub fn retries_aborted(&self) -> bool {
         bit(self.flags, RETRY_ABORTED)
     }
 
@@ -130,7 +130,7 @@ impl Plan {
         bit(self.flags, WAIT_FOR_OPTIONAL)
     }
 
-    fn is_named(&self) -> bool {
+    pub fn is_named(&self) -> bool {
         bit(self.flags, NAMED)
     }
 }
