@@ -212,6 +212,23 @@ fn style_of_losses(dice: &mut Dice) -> Style {
     }
 }
 
+/// Any-order plans that go on until they are told to complete, of whose children about half are named.
+fn style_of_choices(dice: &mut Dice) -> Style {
+    Style {
+        body: Some(reference::ANY_ORDER),
+        for_two: 0,
+        retry: dice.one_of(&[0, 0, 100]),
+        optional: 0,
+        named: 50,
+        present: dice.one_of(&[0, 10, 30]),
+        complete: 100,
+        wait: dice.one_of(&[Wait::Zero, Wait::All, Wait::All]),
+        // a formula that asks for some of the children would mostly end the plan before it has a choice
+        manners: &[Manner::Counting, Manner::Counting, Manner::Counting, Manner::Any],
+        ..any_style(dice)
+    }
+}
+
 fn any_style(dice: &mut Dice) -> Style {
     // Any-order twice: of its rules the pick is the one that is reached least.
     let bodies = [
@@ -367,6 +384,15 @@ fn table_of_turns(dice: &mut Dice) -> Vec<u8> {
     let n = dice.one_of(&[3, 3, 5, 7]);
     let parents = parents(dice, n, Shape::Twos, 2);
     let style = style_of_turns(dice);
+    table_of(dice, &parents, &style)
+}
+
+/// A small table of any-order plans with several children.
+fn table_of_choices(dice: &mut Dice) -> Vec<u8> {
+    let n = dice.between(5, 9);
+    let shape = dice.one_of(&[Shape::Wide, Shape::Wide, Shape::Bushy]);
+    let parents = parents(dice, n, shape, reference::MOST_CHILDREN);
+    let style = style_of_choices(dice);
     table_of(dice, &parents, &style)
 }
 
@@ -767,12 +793,14 @@ fn spoil_siblings(dice: &mut Dice, states: &mut Vec<u8>, plans: &[Plan]) {
 // Records
 // ------------------------------------------------------------------------------------------------
 
-/// What a record is to tell of: of a body for two that its turns come, of a plan that needs its children that it loses some.
+/// What a record is to tell of: of a body for two that its turns come, of a plan that needs its children that it loses some, of a plan in
+/// any order that it takes one child after another.
 #[derive(Clone, Copy)]
 enum Story {
     Any,
     Turns,
     Losses,
+    Choices,
 }
 
 /// A good record of so many steps by a rule: random words and picks, and the pick bits cleared afterwards.
@@ -783,6 +811,7 @@ fn good_record(dice: &mut Dice, rule: Rule, plans: &[Plan], story: Story, steps:
         Story::Any => mood(dice),
         Story::Turns => mood_of(dice.one_of(&[INTERRUPTED, ABORTING])),
         Story::Losses => mood_of(dice.one_of(&[LOSING, LOSING, LOSING, CALM])),
+        Story::Choices => mood_of(CALM),
     };
     let mut temper = next_mood(dice);
     for _ in 0..steps {
@@ -938,14 +967,38 @@ fn spoil_state_in_record(dice: &mut Dice, record: &mut Vec<u8>, plans: &[Plan]) 
     cut_after_sometimes(dice, record, states_start + n);
 }
 
-/// Among the children of an any-order plan: an Activated one is shown Ready, a Ready one Activated,
-/// or both.
+/// Another choice, or two, or none, in a step in which an any-order plan is shown to have chosen.
+fn spoil_choice(dice: &mut Dice, record: &mut Vec<u8>, plans: &[Plan]) {
+    let n = plans.len();
+    let steps = record.len().saturating_sub(HEADER) / (5 * n);
+    let is_chosen = |states_start: usize, child: usize| {
+        record[states_start - 5 * n + child] == reference::READY && record[states_start + child] == reference::ACTIVATED
+    };
+    let chooses = |&(states_start, p): &(usize, usize)| {
+        plans[p].body == reference::ANY_ORDER && plans[p].children.iter().any(|&child| is_chosen(states_start, child))
+    };
+    // from step 2 on, for before it no plan is Ready
+    let places: Vec<(usize, usize)> =
+        (1..steps).flat_map(|step| (0..n).map(move |p| (HEADER + 5 * n * step + 4 * n, p))).filter(chooses).collect();
+    if !places.is_empty() {
+        let (states_start, p) = dice.one_of(&places);
+        move_choice(dice, &mut record[states_start..states_start + n], &plans[p].children);
+        cut_after_sometimes(dice, record, states_start + n);
+    }
+}
+
+/// The same of one any-order plan, whatever it is at.
 fn move_pick(dice: &mut Dice, states: &mut [u8], plans: &[Plan]) {
     let any_order: Vec<usize> = (0..plans.len()).filter(|&p| plans[p].body == reference::ANY_ORDER).collect();
-    if any_order.is_empty() {
-        return;
+    if !any_order.is_empty() {
+        let p = dice.one_of(&any_order);
+        move_choice(dice, states, &plans[p].children);
     }
-    let children = &plans[dice.one_of(&any_order)].children;
+}
+
+/// Among the children of an any-order plan: an Activated one is shown Ready, a Ready one Activated,
+/// or both.
+fn move_choice(dice: &mut Dice, states: &mut [u8], children: &[usize]) {
     let in_state = |states: &[u8], wanted: u8| -> Vec<usize> {
         children.iter().copied().filter(|&child| states[child] == wanted).collect()
     };
@@ -1072,6 +1125,7 @@ impl Maker {
             20..=37 => return losing_call(&mut self.dice),
             38..=43 => return broken_formula_call(&mut self.dice),
             44..=53 => return deciding_call(&mut self.dice),
+            54..=61 => return choosing_call(&mut self.dice),
             _ => {}
         }
         let chosen = self.dice.below(POOL);
@@ -1133,6 +1187,7 @@ impl Maker {
             0..=26 => (table_of_turns(dice), Story::Turns),
             27..=54 => (table_of_losses(dice), Story::Losses),
             55..=76 => (table_of_waits(dice), Story::Losses),
+            77..=85 => (table_of_choices(dice), Story::Choices),
             _ => (good_table(dice, n), Story::Any),
         };
         let story = if dice.percent(80) { story } else { Story::Any };
@@ -1144,6 +1199,7 @@ impl Maker {
             0..=24 => {}
             // What only one rule gives is seen in whole records.
             25..=59 if matches!(story, Story::Losses) => {}
+            25..=84 if matches!(story, Story::Choices) => spoil_choice(dice, &mut record, &plans),
             25..=84 => spoil_record(dice, &mut record, &plans),
             85..=94 => {
                 for _ in 0..dice.between(2, 3) {
@@ -1256,6 +1312,16 @@ fn deciding_call(dice: &mut Dice) -> Call {
     let calm = mood_of(CALM);
     let words: Vec<u32> = good_words(dice, &plans, &calm).iter().map(|word| word | told).collect();
     let words = bytes_of_words(&words);
+    Call { kind: Kind::Step, rule: any_rule(dice).0, table, states, words, budget: 0, continues: None }
+}
+
+/// A step of any-order plans in execution, over children of which about half are Ready, so that by chance the pick is one of them or not.
+fn choosing_call(dice: &mut Dice) -> Call {
+    let table = table_of_choices(dice);
+    let plans = read_good_table(&table);
+    let of_leaves = dice.one_of(&[[3, 3, 2, 2], [3, 3, 6, 8], [3, 3, 3, 7]]);
+    let states = likely_states(dice, &plans, &of_leaves, &[4]);
+    let words = bytes_of_words(&good_words(dice, &plans, &mood_of(CALM)));
     Call { kind: Kind::Step, rule: any_rule(dice).0, table, states, words, budget: 0, continues: None }
 }
 

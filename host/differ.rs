@@ -15,8 +15,9 @@
 //! Status 0: N calls of the first three and then `PER_MOVE` times fewer of the others, which move tables, were made
 //! without a difference and without a move of a plan that the rules do not allow, and, from `REACH_FROM` calls on or
 //! as many as `--reach-from` says, they reached every answer number of the library's, every move of a plan that the
-//! rules allow, and all that turns.rs wants of the bodies 5 to 8, losses.rs of the two rules, formulas.rs of the
-//! tables of version 2 and move_reached.rs of the moves of tables. Status 1: anything else.
+//! rules allow, and all that turns.rs wants of the bodies 5 to 8, picks.rs of the choices in any order, losses.rs of
+//! the two rules, formulas.rs of the tables of version 2 and move_reached.rs of the moves of tables. Status 1:
+//! anything else.
 
 mod cases;
 mod dice;
@@ -25,6 +26,7 @@ mod formulas;
 mod losses;
 mod move_cases;
 mod move_reached;
+mod picks;
 mod reference;
 #[cfg(test)]
 mod same_steps;
@@ -207,9 +209,14 @@ struct Counts {
     told: Told,
 }
 
-/// What was reached of the bodies 5 to 8, of the two rules and of the tables of version 2, told by lines.
+/// What was reached of the bodies 5 to 8, of the choices in any order, of the two rules and of the tables of version 2, told by lines.
 #[derive(Default)]
 struct Told {
+    choices: Lines,
+    choices_in_records: Lines,
+    /// Records that were judged by the old fallback too, and what was reached of them.
+    judged_twice: u64,
+    verdicts: Lines,
     orders: Lines,
     orders_in_records: Lines,
     waits: Lines,
@@ -390,7 +397,7 @@ impl Counts {
         }
     }
 
-    /// Every number, every possible move, and what is wanted of the bodies 5 to 8, of the two rules and of tables of version 2.
+    /// Every number, every possible move, and what is told by lines.
     fn all_reached(&self) -> Result<(), String> {
         for number in numbers() {
             if self.answers.iter().all(|kind| kind[number] == 0) {
@@ -429,22 +436,27 @@ impl Told {
                 return;
             }
         };
-        let of_version_2 = formula_cases::is_of_version_2(&call.table);
-        if of_version_2 {
+        let version = if formula_cases::is_of_version_2(&call.table) { 2 } else { 1 };
+        if version == 2 {
             formulas::count_table(&mut self.tables, &call.table, &plans);
+        }
+        if call.kind == Kind::Check {
+            self.judged_twice += 1;
+            picks::count_verdicts(&mut self.verdicts, rule, version, call, &plans, *answer);
         }
         match (call.kind, number_of(*answer)) {
             (Kind::Step, 0) => {
                 let words = reference::read_words(&call.words);
                 let before = reference::Before { rule, plans: &plans, states: &call.states, words: &words };
+                picks::count_choices(&mut self.choices, version, &before, states);
                 turns::count_orders(&mut self.orders, &before, states);
                 turns::count_waits(&mut self.waits, call, &plans, states);
                 losses::count_moves(&mut self.moves, &before, states);
-                if of_version_2 {
+                if version == 2 {
                     formulas::count_truths(&mut self.truths, &before, states);
                 }
             }
-            (Kind::Check, 0) => self.add_record(rule, &plans, &call.words, of_version_2),
+            (Kind::Check, 0) => self.add_record(rule, &plans, &call.words, version),
             (_, 0) => {}
             _ => turns::count_refused_call(&mut self.refused, call, &plans, *answer),
         }
@@ -452,21 +464,25 @@ impl Told {
     }
 
     /// All steps of a record that the rule accepts.
-    fn add_record(&mut self, rule: Rule, plans: &[reference::Plan], record: &[u8], of_version_2: bool) {
+    fn add_record(&mut self, rule: Rule, plans: &[reference::Plan], record: &[u8], version: u8) {
         cases::for_each_step(rule, plans, record, |before, shown| {
+            picks::count_shown(&mut self.choices_in_records, version, before, shown);
             turns::count_orders(&mut self.orders_in_records, before, shown);
             losses::count_moves(&mut self.moves_in_records, before, shown);
-            if of_version_2 {
+            if version == 2 {
                 formulas::count_truths(&mut self.truths_in_records, before, shown);
             }
         });
     }
 
     /// Each part with its name and what is wanted of it.
-    fn parts(&self) -> [(&str, &Lines, Vec<String>); 14] {
+    fn parts(&self) -> [(&str, &Lines, Vec<String>); 17] {
         let refusals = [turns::wanted_of_tables(), turns::wanted_of_calls()].concat();
         let ([apart, alike], [apart_in_records, alike_in_records]) = (&self.moves, &self.moves_in_records);
         [
+            ("choices in any order in steps", &self.choices, picks::wanted_choices()),
+            ("choices where the fallbacks part in accepted records", &self.choices_in_records, picks::wanted_in_records()),
+            ("records judged alike though the fallbacks part", &self.verdicts, picks::wanted_verdicts()),
             ("orders of bodies 5 to 8 in steps", &self.orders, turns::wanted_orders()),
             ("orders of bodies 5 to 8 in accepted records", &self.orders_in_records, turns::wanted_orders()),
             ("where wait-for-optional decides", &self.waits, turns::wanted_waits()),
@@ -485,6 +501,7 @@ impl Told {
     }
 
     fn print(&self) {
+        println!("records judged by the fallback of before too: {}", self.judged_twice);
         for (name, lines, wanted) in self.parts() {
             lines.print(name, &wanted);
         }

@@ -35,7 +35,7 @@ const REACTIVATED: &str = "is reactivated";
 const COMPLETED: &str = "is Completed";
 const OTHERWISE: &str = "does what no rule says";
 
-fn number_of(rule: Rule) -> u32 {
+pub fn number_of(rule: Rule) -> u32 {
     RULES[usize::from(rule == Rule::New)].0
 }
 

@@ -287,7 +287,7 @@ fn overridden(word: u32, condition: u32) -> bool {
 }
 
 /// "Bits 24-29 pick: a child's rank"
-fn pick_of(word: u32) -> usize {
+pub fn pick_of(word: u32) -> usize {
     (word >> 24 & 0b11_1111) as usize
 }
 
@@ -667,6 +667,18 @@ fn child_activated_in_any_order(before: &Before, parent: usize, pick: usize) -> 
     picked.or(lowest_named).or(lowest)
 }
 
+/// History. Before request (vii) it was "else the Ready child of lowest rank", named or not. A stored input
+/// that relied on this goes on as it did once its picks are written out: each is this one then.
+pub fn pick_written_out(before: &Before, parent: usize, pick: usize) -> usize {
+    let plan = &before.plans[parent];
+    let is_ready = |child: usize| before.states[child] == READY;
+    if plan.body != ANY_ORDER || is_ready(plan.children[pick]) {
+        return pick;
+    }
+    let lowest = plan.children.iter().position(|&child| is_ready(child));
+    lowest.unwrap_or(pick)
+}
+
 /// 02 (i): "In 5 to 7 the first child is run as in an unordered body; the second is considered once
 /// ..., and activated when Ready."
 fn bad_turn_orders(before: &Before, p: usize, parent: usize) -> Orders {
@@ -862,7 +874,18 @@ fn part_of_step(record: &[u8], n: usize, step: usize) -> (&[u8], &[u8]) {
 /// pick of q meets all the demands on q. That is what stays in the sets. (Plans that are not
 /// any-order have the one pick 0, and it is treated as any other.)
 pub fn first_unexplained_plan(before: &Before, shown: &[u8]) -> Option<usize> {
-    let mut possible_picks: Vec<Vec<usize>> = before.plans.iter().map(all_picks).collect();
+    first_unexplained_by(before, shown, before.plans.iter().map(all_picks).collect())
+}
+
+/// The same by the fallback of before. 02 (vii): "Demand 3 does not move: prove that no record's verdict
+/// changes." It does not, since either way the fallback gives a Ready child, and each of these can be picked.
+pub fn first_unexplained_by_old_fallback(before: &Before, shown: &[u8]) -> Option<usize> {
+    let picks = |q: usize| all_picks(&before.plans[q]).into_iter().map(|pick| pick_written_out(before, q, pick)).collect();
+    first_unexplained_by(before, shown, (0..before.plans.len()).map(picks).collect())
+}
+
+/// The search, given for each plan the picks that are possible at first.
+fn first_unexplained_by(before: &Before, shown: &[u8], mut possible_picks: Vec<Vec<usize>>) -> Option<usize> {
     for (p, plan) in before.plans.iter().enumerate() {
         match plan.parent {
             None => {
@@ -1158,9 +1181,12 @@ fn read_record(record: &[u8], n: usize) -> Result<usize, Answer> {
     Ok(body / step_bytes(n))
 }
 
+/// For the lowest plan that no picks explain.
+type Search = fn(&Before, &[u8]) -> Option<usize>;
+
 /// "step by step 12 before 15", each naming the step, "from 1". The first step starts from a tree
 /// in which nothing has begun.
-fn compare_steps(rule: Rule, plans: &[Plan], record: &[u8], steps: usize) -> Check {
+fn compare_steps(rule: Rule, plans: &[Plan], record: &[u8], steps: usize, search: Search) -> Check {
     let n = plans.len();
     let inactive = vec![INACTIVE; n];
     let mut states: &[u8] = &inactive;
@@ -1169,7 +1195,7 @@ fn compare_steps(rule: Rule, plans: &[Plan], record: &[u8], steps: usize) -> Che
         let words = read_words(words);
         refuse_lowest_plan(n, 12, step, |p| word_in_record_is_wrong(&plans[p], words[p]))?;
         // "15: states that no picks explain"
-        if let Some(p) = first_unexplained_plan(&Before { rule, plans, states, words: &words }, shown) {
+        if let Some(p) = search(&Before { rule, plans, states, words: &words }, shown) {
             return Err(answer(15, p, step));
         }
         states = shown;
@@ -1290,15 +1316,20 @@ fn try_rest(
 
 /// Checking a record: "Acceptance returns the number of steps."
 pub fn check(rule: u32, table: &[u8], record: &[u8]) -> Answer {
-    try_check(rule, table, record).unwrap_or_else(|refusal| refusal)
+    try_check(rule, table, record, first_unexplained_plan).unwrap_or_else(|refusal| refusal)
+}
+
+/// The same by the fallback of before 02 (vii).
+pub fn check_by_old_fallback(rule: u32, table: &[u8], record: &[u8]) -> Answer {
+    try_check(rule, table, record, first_unexplained_by_old_fallback).unwrap_or_else(|refusal| refusal)
 }
 
 /// "the checker goes 1-9, 13, 14, then step by step", with 22 where a table is read
-fn try_check(rule: u32, table: &[u8], record: &[u8]) -> Result<Answer, Answer> {
+fn try_check(rule: u32, table: &[u8], record: &[u8], search: Search) -> Result<Answer, Answer> {
     let rule = read_rule(rule)?;
     let plans = read_table(table)?;
     let steps = read_record(record, plans.len())?;
-    compare_steps(rule, &plans, record, steps)?;
+    compare_steps(rule, &plans, record, steps, search)?;
     Ok(answer(DONE, 0, steps))
 }
 

@@ -569,6 +569,7 @@ fn plan_by_plan_search_finds_what_brute_force_finds() {
         let shown = nearly_shown(&mut dice, &before);
         let found = reference::first_unexplained_plan(&before, &shown);
         assert_eq!(found, first_unexplained_by_brute_force(&before, &shown));
+        assert_eq!(found, reference::first_unexplained_by_old_fallback(&before, &shown));
         let choices = plans_with_a_choice(&before);
         match found {
             None => explained[choices] += 1,
@@ -1342,7 +1343,73 @@ fn runs_and_records_where_the_pick_is_not_ready() {
             let rows = [([4, 6, 4, 3], answer(0, 0, 10)), ([4, 6, 3, 4], answer(0, 0, 10)), ([4, 6, 4, 4], answer(15, 3, 10))];
             for (last, expected) in rows.into_iter().chain([([4, 6, 3, 3], answer(15, 3, 10))]) {
                 assert_eq!(reference::check(rule, &table, &record(last)), expected);
+                assert_eq!(reference::check_by_old_fallback(rule, &table, &record(last)), expected);
             }
         }
     }
+}
+
+/// What document 01 said: "else the Ready child of lowest rank". With the pick that stands behind the arrow, a stored input goes on so.
+#[test]
+fn picks_written_out() {
+    let rows = [
+        // 0 is not Ready: the lowest Ready one, though 3 is named
+        ([OTHER, OTHER, OTHER, NAMED], [6, 3, 3, 3], 0, 1),
+        ([OTHER, NAMED, OTHER, OTHER], [3, 3, 3, 8], 3, 0),
+        // a Ready pick stays, and so does one where nothing is Ready
+        ([OTHER, OTHER, NAMED, OTHER], [3, 3, 3, 3], 3, 3),
+        ([OTHER, OTHER, NAMED, OTHER], [2, 6, 8, 1], 2, 2),
+    ];
+    for (named, children, pick, expected) in rows {
+        for table in any_order_tables(0, &named) {
+            let (plans, states) = (good_plans(&table), [&[4], &children[..]].concat());
+            let before = Before { rule: Rule::New, plans: &plans, states: &states, words: &[0; 5] };
+            assert_eq!(reference::pick_written_out(&before, 0, pick), expected);
+            // of a leaf, or of another body, the one pick is 0
+            assert_eq!(reference::pick_written_out(&before, 1, 0), 0);
+        }
+    }
+    let [mut unordered, ..] = any_order_tables(0, &[OTHER; 4]);
+    unordered[place(0, 2)] = 4;
+    let plans = good_plans(&unordered);
+    let before = Before { rule: Rule::New, plans: &plans, states: &[4, 2, 3, 3, 3], words: &[0; 5] };
+    assert_eq!(reference::pick_written_out(&before, 0, 0), 0);
+}
+
+/// All states of up to four leaves below one any-order plan, and all ways to name them: what the picks can lead to, taken together, is the
+/// same by both fallbacks, though one pick can lead elsewhere. This is all that a record asks.
+#[test]
+fn the_fallbacks_lead_to_the_same_states_over_all_picks() {
+    let mut apart = 0;
+    for (leaves, flags) in [(1, 0), (2, 0), (3, 0), (4, 0), (4, 1)] {
+        for set in 0..1 << leaves {
+            let named: Vec<bool> = (0..leaves).map(|rank| set >> rank & 1 == 1).collect();
+            let [table, ..] = any_order_tables(flags, &named);
+            for number in 0..5usize.pow(leaves) {
+                let children: Vec<u8> = (0..leaves).map(|rank| [2, 3, 5, 6, 7][number / 5usize.pow(rank) % 5]).collect();
+                if children.iter().filter(|&&state| state == 5).count() < 2 {
+                    apart += leads_apart(&table, &children);
+                }
+            }
+        }
+    }
+    // Counted by hand: the lowest of r Ready ones is not named and another is, in 2^(r-1) - 1 ways; each of the k - r others is in one of
+    // three states, or of two where Aborted ones are retried, named or not, and can be the pick. Of three leaves 18, of four 504 and 240.
+    assert_eq!(apart, 18 + 504 + 240);
+}
+
+/// Of how many picks the two fallbacks lead to different states, once it is seen that all picks together do not.
+fn leads_apart(table: &[u8], children: &[u8]) -> usize {
+    let (plans, states) = (good_plans(table), [&[4], children].concat());
+    let after = |pick: usize| {
+        let mut words = vec![0; states.len()];
+        words[0] = (pick as u32) << 24;
+        reference::new_states(&Before { rule: Rule::New, plans: &plans, states: &states, words: &words })
+    };
+    let idle = vec![0; states.len()];
+    let before = Before { rule: Rule::New, plans: &plans, states: &states, words: &idle };
+    let now: Vec<Vec<u8>> = (0..children.len()).map(after).collect();
+    let then: Vec<Vec<u8>> = (0..children.len()).map(|pick| after(reference::pick_written_out(&before, 0, pick))).collect();
+    assert!(now.iter().all(|states| then.contains(states)) && then.iter().all(|states| now.contains(states)), "{table:?}, {children:?}");
+    now.iter().zip(&then).filter(|(now, then)| now != then).count()
 }

@@ -1,4 +1,5 @@
-//! What a comparison has reached, in words, beside what it must reach: for turns.rs, losses.rs, formulas.rs, move_reached.rs and held.rs.
+//! What a comparison has reached, in words, beside what it must reach: for turns.rs, picks.rs, losses.rs, formulas.rs, move_reached.rs and
+//! held.rs.
 
 use std::collections::BTreeMap;
 
