@@ -3,13 +3,16 @@
 use Prim.Native.Nat.{ℕ}
 use mathlib.Core.Path.{_≡_, refl}
 use mathlib.Core.Logic.{_↔_}
-use mathlib.Core.List.{List}
+use mathlib.Core.List.{List, [], _∷_}
+use Rattle.rules.specs.States.{stateAt}
+use Rattle.rules.specs.Table.{childrenBefore, children}
+use Rattle.rules.specs.Step.{fallback, readyOr, chosen}
 use Rattle.rules.specs.Record.{Choosing, wordsOf, statesOf, statesBefore}
 use Rattle.rules.specs.Answers.{recordCheck, JudgedBy, Judged}
 use Rattle.rules.specs.declared.Outcome.the-variants.{Done}
 use Rattle.rules.specs.declared.Verdict.{Verdict}
 use Rattle.rules.proofs.Verdicts.{Explains, still-judged}
-use Rattle.demands.specs.Before.{JudgedBefore}
+use Rattle.demands.specs.Before.{chosenBefore, JudgedBefore}
 use Rattle.demands.proofs.Choice.{AmongReady, chosen-among, before-among}
 use Rattle.demands.proofs.Witness.{shown-decides}
 use Rattle.demands.proofs.Accepted.{table-done}
@@ -40,3 +43,21 @@ module _ (rule : ℕ) (t r : List ℕ) where
 
 pub verdict-stays : (rule : ℕ) (t r : List ℕ) (v : Verdict) → JudgedBefore rule t r v ↔ Judged rule t r v
 verdict-stays rule t r v = (judged-alike rule t r before-among chosen-among v, judged-alike rule t r chosen-among before-among v)
+
+-- Though the two ways part: of three leaves under an any-order root the last alone is named, the second and the last are Ready, and the first
+-- is picked.
+abbrev lastNamed : List ℕ
+lastNamed =
+    65 ∷ 80 ∷ 84 ∷ 1 ∷ 0 ∷ 4 ∷ 0 ∷ 0
+    ∷ 255 ∷ 255 ∷ 3 ∷ 0 ∷ 0 ∷ 0 ∷ 0 ∷ 1
+    ∷ 0 ∷ 0 ∷ 0 ∷ 0 ∷ 0 ∷ 0 ∷ 0 ∷ 0
+    ∷ 0 ∷ 0 ∷ 0 ∷ 0 ∷ 0 ∷ 0 ∷ 0 ∷ 0
+    ∷ 0 ∷ 0 ∷ 0 ∷ 4 ∷ 0 ∷ 0 ∷ 0 ∷ 0
+    ∷ []
+
+abbrev takes : Choosing → ℕ
+takes choosing = choosing lastNamed (4 ∷ 1 ∷ 3 ∷ 3 ∷ []) (λ q. 0) 0
+
+pub ways-part : (takes chosenBefore ≡ 2) × (takes chosen ≡ 3)
+unfolding stateAt childrenBefore children fallback readyOr chosen chosenBefore
+ways-part = (refl, refl)
