@@ -44,8 +44,8 @@ module _ (rule : ℕ) (t r : List ℕ) where
 pub verdict-stays : (rule : ℕ) (t r : List ℕ) (v : Verdict) → JudgedBefore rule t r v ↔ Judged rule t r v
 verdict-stays rule t r v = (judged-alike rule t r before-among chosen-among v, judged-alike rule t r chosen-among before-among v)
 
--- Though the two ways part: of three leaves under an any-order root the last alone is named, the second and the last are Ready, and the first
--- is picked.
+-- Though the two ways part: under an any-order root with three leaves, of which the last is named and Ready, the second Ready and the first
+-- picked.
 abbrev lastNamed : List ℕ
 lastNamed =
     65 ∷ 80 ∷ 84 ∷ 1 ∷ 0 ∷ 4 ∷ 0 ∷ 0

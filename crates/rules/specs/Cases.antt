@@ -1,6 +1,6 @@
 -- Document 01, 'Small protocols to try': the lines marked P, in their order, then some that are not, then rows of our own, with those of
--- document 02 (i) to (iii) and (v) among them; one table, and one theorem that all its rows hold. A row of a step or a run goes through
--- the whole call, checks 17, 1 to 12 and 22 included, by each rule that its first column names. Assumes nothing.
+-- document 02 (i) to (iii), (v) and (vii) among them; one table, and one theorem that all its rows hold. A row of a step or a run goes
+-- through the whole call, checks 17, 1 to 12 and 22 included, by each rule that its first column names. Assumes nothing.
 use Prim.Native.Nat.{ℕ, zero, suc, _+_, _-_, _*_, _/_, _%_, _^_}
 use Prim.Native.String.{String}
 use mathlib.Core.Bool.{Bool, true, false, cond, _&&_}
@@ -11,7 +11,7 @@ use lib.Dec.{eqb}
 use Rattle.rules.specs.Lists.{all, same, leastFrom, someBelow, highest}
 use Rattle.rules.specs.Bytes.{isSet, text}
 use Rattle.rules.specs.States.{stateAt}
-use Rattle.rules.specs.Table.{childrenBefore, children, rank, isOrIsAbove}
+use Rattle.rules.specs.Table.{planCount, childrenBefore, children, rank, isOrIsAbove}
 use Rattle.rules.specs.WaitFor.{formulaHolds, waitFor, firstNodes, askedNodes, uses, ownerWithin, owner}
 use Rattle.rules.specs.Words.{holds, satisfiable, withPattern}
 use Rattle.rules.specs.Step.{
@@ -158,6 +158,15 @@ ranked : ℕ → ℕ → ℕ → List ℕ
 unfolding tableOf entryWith
 ranked f₁ f₂ f₃ = tableOf 4 3 0 0x20 (entryWith 0 0 f₁ 0x20 0 (entryWith 0 0 f₂ 0x20 0 (entryWith 0 0 f₃ 0x20 0 [])))
 
+-- an unordered root; its children are plan 1 and a leaf, plan 7, both named; plan 1 is any-order with m 1, retry-aborted and
+-- wait-for-optional; its children are plans 2, 4 and 5, of which the last is named, and the first and the last have a leaf each
+nested : List ℕ
+unfolding tableOf entryWith entryUnder
+nested =
+    let under1 : List ℕ → List ℕ =
+    (λ others. entryUnder 1 4 0 (entryUnder 2 0 0 (entryUnder 1 0 0 (entryWith 1 4 4 0 0 (entryUnder 5 0 0 others))))) in
+    tableOf 8 4 0 0x20 (entryWith 0 3 7 0x20 1 (under1 (entryWith 0 0 4 0 0 [])))
+
 -- document 02 (v): a table whose plans' bytes 7 name first nodes, with a number of nodes and their bytes; one node; T1 with these flags
 -- and nodes; a root whose formula begins with node 0, three leaves under it, the first two named; a root with two children of which the
 -- first has one, their formulas beginning with nodes 0 and 1
@@ -191,13 +200,13 @@ crossed : List ℕ
 unfolding tableOf entryUnder
 crossed = tableOf 4 4 0 0 (entryUnder 0 4 0 (entryUnder 0 0 0 (entryUnder 1 0 0 [])))
 
--- three states as document 01 writes them (000 is the number 0), four, and three words
+-- three states as document 01 writes them (000 is the number 0), k states, and three words
 unfoldable pub states : ℕ → List ℕ
 states n = n / 100 ∷ n / 10 % 10 ∷ n % 10 ∷ []
 
-fourStates : ℕ → List ℕ
-unfolding states
-fourStates n = n / 1000 ∷ states (n % 1000)
+manyStates : ℕ → ℕ → List ℕ
+manyStates zero n = []
+manyStates (suc k) n = n / 10 ^ k % 10 ∷ manyStates k n
 
 bytes : ℕ → List ℕ
 bytes x = x % 256 ∷ x / 256 % 256 ∷ x / 65536 % 256 ∷ x / 2 ^ 24 ∷ []
@@ -223,8 +232,8 @@ new = 2 ∷ []
 pub data Row : Type 0 where
   -- one step that is done: rules, table, states, words, new states
   rowStep : List ℕ → List ℕ → ℕ → List ℕ → ℕ → Row
-  -- one step that is done, by both rules: a table of a root and three leaves, four states, the root's pick, four new states
-  rowChooses : List ℕ → ℕ → ℕ → ℕ → Row
+  -- one step that is done, by both rules: a table, its states, a plan and its pick (the other words are 0), new states
+  rowChooses : List ℕ → ℕ → ℕ → ℕ → ℕ → Row
   -- a run from the states under a budget, behind rules and table: rested after so many steps, with these states
   rowRests : List ℕ → List ℕ → ℕ → ℕ → ℕ → ℕ → Row
   -- a run from the states under a budget: still moving, with these states
@@ -274,12 +283,14 @@ isRefusedRun number plan rest.Moving = false
 isRefusedRun number plan (rest.Refused why) = isPlaced number plan why
 
 holdsIn : Row → Bool
-unfolding states fourStates bytes words idle isRested isMoving isAccepted isRefused isRefusedRun
+unfolding states manyStates bytes words idle isRested isMoving isAccepted isRefused isRefusedRun
 holdsIn (rowStep rules t from w to) =
     all (λ rule. isDone (stepAnswer rule t (states from) w) && same (stepStates rule t (states from) w) (states to)) rules
-holdsIn (rowChooses t from pick to) =
-    let w : List ℕ = bytes (pick * 2 ^ 24) ++ idle in
-    all (λ rule. isDone (stepAnswer rule t (fourStates from) w) && same (stepStates rule t (fourStates from) w) (fourStates to)) both
+holdsIn (rowChooses t from q pick to) =
+    let n : ℕ = planCount t in
+    let s : List ℕ = manyStates n from in
+    let w : List ℕ = replicate (4 * q) 0 ++ bytes (pick * 2 ^ 24) ++ replicate (4 * (n - 1 - q)) 0 in
+    all (λ rule. isDone (stepAnswer rule t s w) && same (stepStates rule t s w) (manyStates n to)) both
 holdsIn (rowRests rules t from budget k to) =
     all (λ rule.
     isRested k (runAnswer rule t (states from) idle budget) && same (runStates rule t (states from) idle budget) (states to)) rules
@@ -524,29 +535,36 @@ retries =
 
 -- document 02 (vii): the any-order choice. The flags are those of the children of rank 0, 1 and 2; 4 is named
 choices : List Row
-unfolding ranked inVersion2 node
+unfolding ranked nested inVersion2 node
 choices =
     -- the pick is not Ready: the named one, though a lower one is Ready too; of two named ones the lower; with none the lowest
-    rowChooses (ranked 0 0 4) 4233 0 4334
-    ∷ rowChooses (ranked 0 4 0) 4233 0 4343
-    ∷ rowChooses (ranked 0 4 4) 4233 0 4343
-    ∷ rowChooses (ranked 0 0 0) 4233 0 4343
+    rowChooses (ranked 0 0 4) 4233 0 0 4334
+    ∷ rowChooses (ranked 0 4 0) 4233 0 0 4343
+    ∷ rowChooses (ranked 0 4 4) 4233 0 0 4343
+    ∷ rowChooses (ranked 0 0 0) 4233 0 0 4343
     -- wherever the pick stands
-    ∷ rowChooses (ranked 0 4 0) 4332 2 4343
-    ∷ rowChooses (ranked 0 0 4) 4383 1 4384
+    ∷ rowChooses (ranked 0 4 0) 4332 0 2 4343
+    ∷ rowChooses (ranked 0 0 4) 4383 0 1 4384
+    -- named itself, between two named ones: the lowest, not the next
+    ∷ rowChooses (ranked 4 0 4) 4233 0 0 4334
+    ∷ rowChooses (ranked 4 4 4) 4323 0 1 4433
     -- a named one that is not Ready counts for nothing, be it the pick or not
-    ∷ rowChooses (ranked 4 0 0) 4233 0 4343
-    ∷ rowChooses (ranked 0 4 0) 4223 0 4334
-    ∷ rowChooses (ranked 4 0 0) 4633 0 4643
+    ∷ rowChooses (ranked 4 0 0) 4233 0 0 4343
+    ∷ rowChooses (ranked 0 4 0) 4223 0 0 4334
+    ∷ rowChooses (ranked 4 0 0) 4633 0 0 4643
     -- the pick is Ready: it is taken, named or not, whatever else is
-    ∷ rowChooses (ranked 0 0 4) 4333 0 4433
-    ∷ rowChooses (ranked 4 0 0) 4333 1 4343
-    ∷ rowChooses (ranked 4 4 4) 4333 2 4334
+    ∷ rowChooses (ranked 0 0 4) 4333 0 0 4433
+    ∷ rowChooses (ranked 4 0 0) 4333 0 1 4343
+    ∷ rowChooses (ranked 4 4 4) 4333 0 2 4334
     -- nobody is Ready: nobody is taken; beside one in execution nobody is
-    ∷ rowChooses (ranked 0 0 4) 4222 0 4333
-    ∷ rowChooses (ranked 0 0 4) 4433 0 4433
+    ∷ rowChooses (ranked 0 0 4) 4222 0 0 4333
+    ∷ rowChooses (ranked 0 0 4) 4433 0 0 4433
+    -- by the children, names and pick of the plan itself, be it named and whatever its m and flags; a child that is no leaf as any other
+    ∷ rowChooses nested 44203303 1 0 44303404
+    ∷ rowChooses nested 44203203 1 0 44304304
+    ∷ rowChooses nested 44203303 1 1 44304304
     -- in version 2 as in version 1
-    ∷ rowChooses (inVersion2 (ranked 0 0 4) 1 (node 5 0 0)) 4233 0 4334
+    ∷ rowChooses (inVersion2 (ranked 0 0 4) 1 (node 5 0 0)) 4233 0 0 4334
     ∷ []
 
 -- rows of our own: refusals
