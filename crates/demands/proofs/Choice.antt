@@ -129,25 +129,27 @@ module _ (t s : List ℕ) (q : ℕ) where
 -- The two laws of a way to choose: picks choose a Ready child where there is one, and the rank of each chooses it.
 pub record AmongReady (choosing : Choosing) : Type 0 where
   pub found :
-      (t s : List ℕ) (pick : ℕ → ℕ) (q : ℕ) → T (some (isReady s) (children t q)) → ReadyChild t s q (choosing t s pick q)
+      (t s : List ℕ) (pick : ℕ → ℕ) (q : ℕ) → T (someReady t s q) → ReadyChild t s q (choosing t s pick q)
   pub ranked : (t s : List ℕ) (pick : ℕ → ℕ) (q c : ℕ) → ReadyChild t s q c → pick q ≡ rank t c → choosing t s pick q ≡ c
 
--- They hold of the way that stands, and of the one before document 02 (vii).
+-- They hold whatever is taken where the pick is not Ready, if it is a Ready child where there is one: so of the way that stands, and of the
+-- one before document 02 (vii).
+ready-or-among :
+    (other : List ℕ → List ℕ → ℕ → ℕ) → ((t s : List ℕ) (q : ℕ) → T (someReady t s q) → ReadyChild t s q (other t s q))
+    → AmongReady (λ t s pick q. readyOr t s (other t s q) (pick q) q)
+ready-or-among other falls =
+    record {
+      found = λ t s pick q. ready-or-found t s q (other t s q) (pick q) (falls t s q);
+      ranked = λ t s pick q. ready-or-rank t s q (other t s q) (pick q);
+    }
+
 pub chosen-among : AmongReady chosen
 unfolding chosen
-chosen-among =
-    record {
-      found = λ t s pick q. ready-or-found t s q (fallback t s q) (pick q) (fallback-found t s q);
-      ranked = λ t s pick q. ready-or-rank t s q (fallback t s q) (pick q);
-    }
+chosen-among = ready-or-among fallback fallback-found
 
 pub before-among : AmongReady chosenBefore
 unfolding chosenBefore
-before-among =
-    record {
-      found = λ t s pick q. ready-or-found t s q (first (isReady s) (children t q)) (pick q) (lowest-found t s q);
-      ranked = λ t s pick q. ready-or-rank t s q (first (isReady s) (children t q)) (pick q);
-    }
+before-among = ready-or-among (λ t s q. first (isReady s) (children t q)) lowest-found
 
 -- only the plan's own pick is read
 pub same-chosen : (t s : List ℕ) (pick : ℕ → ℕ) (q : ℕ) (other : ℕ → ℕ) → pick q ≡ other q → chosen t s pick q ≡ chosen t s other q
@@ -156,10 +158,7 @@ same-chosen t s pick q other e = rw e refl
 
 -- The witness.
 module _ (t s shown : List ℕ) (q : ℕ) where
-  abbrev ready : Bool
-  ready = some (isReady s) (children t q)
-
-  pub activated-found : T (some (isReady s) (children t q)) → ReadyChild t s q (activatedChild t s shown q)
+  pub activated-found : T (someReady t s q) → ReadyChild t s q (activatedChild t s shown q)
   unfolding activatedChild
   activated-found = target-found (isReady s) (λ c. is Activated (stateAt shown c)) (children t q)
 
@@ -174,21 +173,21 @@ module _ (t s shown : List ℕ) (q : ℕ) where
 
   -- it chooses the child that is shown
   pub witness-chooses :
-      {choosing : Choosing} → AmongReady choosing → bodyOf (entry t q) ≡ AnyOrder → T ready
+      {choosing : Choosing} → AmongReady choosing → bodyOf (entry t q) ≡ AnyOrder → T (someReady t s q)
       → choosing t s (witness t s shown) q ≡ activatedChild t s shown q
   unfolding witness
   witness-chooses among b r =
-      among .ranked t s (witness t s shown) q (activatedChild t s shown q) (activated-found r) (rw (b, is-true ready r))
+      among .ranked t s (witness t s shown) q (activatedChild t s shown q) (activated-found r) (rw (b, is-true (someReady t s q) r))
 
   -- it is below 64, as the plans' ranks are
   pub witness-narrow : ((c : ℕ) → c < planCount t → rank t c < 64) → witness t s shown q < 64
   unfolding witness
   witness-narrow narrow = go (isBody AnyOrder (bodyOf (entry t q)))
     where
-      go : (b : Bool) → cond (b && ready) (rank t (activatedChild t s shown q)) 0 < 64
+      go : (b : Bool) → cond (b && someReady t s q) (rank t (activatedChild t s shown q)) 0 < 64
       go false = omega arith
       go true =
-          cond-by (λ x. x < 64) ready (λ r. narrow _ (member-child t q _ (activated-found r .member) .within)) (λ r. omega arith)
+          cond-by (λ x. x < 64) (someReady t s q) (λ r. narrow _ (member-child t q _ (activated-found r .member) .within)) (λ r. omega arith)
 
   -- it is a pick that words may hold
   pub witness-allowed :
@@ -198,11 +197,11 @@ module _ (t s shown : List ℕ) (q : ℕ) where
   witness-allowed h = go (isBody AnyOrder (bodyOf (entry t q))) (λ b. h (body-is AnyOrder (bodyOf (entry t q)) b))
     where
       pick : Bool → ℕ
-      pick b = cond (b && ready) (rank t (activatedChild t s shown q)) 0
+      pick b = cond (b && someReady t s q) (rank t (activatedChild t s shown q)) 0
 
       go : (b : Bool) → (T b → 0 < length (children t q)) → T (cond b (ltb (pick b) (length (children t q))) (eqb (pick b) 0))
       go true k =
           lt→ltb (pick true) (length (children t q))
-          (cond-by (λ x. x < length (children t q)) ready
+          (cond-by (λ x. x < length (children t q)) (someReady t s q)
           (λ r. rank-small t q _ (member-child t q _ (activated-found r .member))) (λ r. k tt))
       go false k = tt

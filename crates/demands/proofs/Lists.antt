@@ -45,17 +45,6 @@ module _ (f : ℕ → Bool) where
       go true e ih x = record { member = List·Memᴰ·head refl; passes = rw e tt }
       go false e ih x = later (ih x)
 
-  -- the first that passes does pass, or there is none
-  pub first-or-none : (ks : List ℕ) → (f (first f ks) ≡ true) ⊎ (first f ks ≡ noPlan)
-  first-or-none [] = inr refl
-  first-or-none (k ∷ ks) = go (f k) refl (first-or-none ks)
-    where
-      go :
-          (b : Bool) → f k ≡ b → (f (first f ks) ≡ true) ⊎ (first f ks ≡ noPlan)
-          → (f (cond b k (first f ks)) ≡ true) ⊎ (cond b k (first f ks) ≡ noPlan)
-      go true e rest = inl e
-      go false e rest = rest
-
   pub last-found : (ks : List ℕ) → T (some f ks) → Found f ks (last f ks)
   last-found [] h = absurd h
   last-found (k ∷ ks) h = go (some f ks) (f k) refl h (last-found ks)
