@@ -42,7 +42,7 @@ move-unread :
 unfolding move holds satisfiable
 move-unread parent o x lost mayComplete old m e = refl
 
--- the any-order choice: which children are named stands in another byte
+-- the any-order choice: the same children are named
 module _ {t u : List ℕ} (a : Alike t u) (s : List ℕ) (q : ℕ) where
   abbrev readyNamed : List ℕ → ℕ → Bool
   readyNamed x c = is Ready (stateAt s c) && named (entry x c)
@@ -52,10 +52,7 @@ module _ {t u : List ℕ} (a : Alike t u) (s : List ℕ) (q : ℕ) where
 
   same-fallback : fallback u s q ≡ fallback t s q
   unfolding fallback
-  same-fallback =
-      let f : ℕ → Bool = readyNamed u in
-      let g : ℕ → Bool = readyNamed t in
-      rw (same-children a q, some-child f g t same-test q, first-child f g t same-test q)
+  same-fallback = rw (same-children a q, some-child _ _ t same-test q, first-child _ _ t same-test q)
 
   pub same-chosen : (pick : ℕ → ℕ) → chosen u s pick q ≡ chosen t s pick q
   unfolding readyOr chosen
