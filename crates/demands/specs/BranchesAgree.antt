@@ -1,5 +1,5 @@
 -- What a step asks of words that have passed check 12: where one says that if-then-else's condition is satisfied, it says that it still can
--- be. Assumes nothing.
+-- be. Nobody has to believe this. Assumes nothing.
 use Prim.Native.Nat.{ℕ, _<_}
 use mathlib.Core.List.{List}
 use lib.Dec.{T}

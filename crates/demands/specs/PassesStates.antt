@@ -1,4 +1,5 @@
--- Check 11 passed: as many states as plans, and no plan that breaks a rule together with lower ones. Assumes nothing.
+-- Check 11 passed: as many states as plans, and no plan that breaks a rule together with lower ones. Nobody has to believe
+-- this. Assumes nothing.
 use Prim.Native.Nat.{ℕ, _<_}
 use mathlib.Core.Bool.{false}
 use mathlib.Core.Path.{_≡_}

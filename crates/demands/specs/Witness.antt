@@ -1,4 +1,4 @@
--- The witness: of all picks, the ones that explain the states shown if any do. Assumes nothing.
+-- The witness: of all picks, the ones that explain the states shown if any do. Nobody has to believe this. Assumes nothing.
 use Prim.Native.Nat.{ℕ}
 use mathlib.Core.Bool.{Bool, cond, _&&_}
 use mathlib.Core.List.{List, [], _∷_}
