@@ -2,7 +2,7 @@
 -- picks explain the same in the one as in the other. Assumes nothing.
 use Prim.Native.Nat.{ℕ, suc, _≤_}
 use native.Mathlib.Omega.{arith}
-use mathlib.Core.Path.{_≡_, sym, _∙_, subst}
+use mathlib.Core.Path.{_≡_, _∙_}
 use mathlib.Core.List.{List}
 use Rattle.rules.specs.Table.{planCount}
 use Rattle.rules.specs.Record.{Choosing, stepCount, ExplainedFirstBy}
@@ -38,9 +38,7 @@ module _ {rule : ℕ} {r : List ℕ} {choosing : Choosing} {t : List ℕ} {choos
   still-passes done i passed =
       record {
         words = same .words i ∙ passed .words;
-        states =
-            subst (λ (k : ℕ). ExplainedFirstBy choosing′ rule u r i k) (sym (same .plans))
-            (same .there done i (planCount t) (omega arith) (passed .states));
+        states = same .there done i (planCount u) (omega (arith, same .plans)) (rw (same .plans) (passed .states));
       }
 
   pub still-judged : (v : Verdict) → JudgedBy choosing rule t r v → JudgedBy choosing′ rule u r v
