@@ -187,7 +187,8 @@ module _ (t s shown : List ℕ) (q : ℕ) where
       go : (b : Bool) → cond (b && someReady t s q) (rank t (activatedChild t s shown q)) 0 < 64
       go false = omega arith
       go true =
-          cond-by (λ x. x < 64) (someReady t s q) (λ r. narrow _ (member-child t q _ (activated-found r .member) .within)) (λ r. omega arith)
+          cond-by (λ x. x < 64) (someReady t s q)
+          (λ r. narrow _ (member-child t q _ (activated-found r .member) .within)) (λ r. omega arith)
 
   -- it is a pick that words may hold
   pub witness-allowed :
