@@ -1,6 +1,7 @@
 -- Laws and theorems over the definitions of crate rules. The theorems: Witness and PlanByPlan (which picks explain the states
 -- shown), Valid (a step keeps check 11 passed), OneInExecution, OnlyWhileParent and EndingsKept (demand 3's last rules), Unique (one
--- verdict), VerdictStays (the same verdicts as before document 02 (vii)). The rest leads to them.
+-- verdict), VerdictStays (the same verdicts as before document 02 (vii)), RestsWithin (document 02 (viii): when a run rests) and ForEver
+-- (why that has premises). The rest leads to them.
 pub mod Numbers
 pub mod Tests
 pub mod Lists
@@ -18,6 +19,7 @@ pub mod PassedWords
 pub mod TwoChildren
 pub mod Went
 pub mod Valid
+pub mod PassedCall
 pub mod Accepted
 pub mod VerdictStays
 pub mod OneInExecution
@@ -25,3 +27,7 @@ pub mod OnlyWhileParent
 pub mod EndingsKept
 pub mod Lively
 pub mod Unique
+pub mod Falls
+pub mod Resting
+pub mod RestsWithin
+pub mod ForEver

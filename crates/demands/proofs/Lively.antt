@@ -64,9 +64,9 @@ use Rattle.rules.specs.Demands.{Retried}
 use Rattle.rules.specs.declared.PlanState.{PlanState}
 use Rattle.rules.specs.declared.PlanState.the-variants.{Activated, Suspended, Completed, Aborted}
 use Rattle.rules.specs.declared.Refusal.the-variants.{Unexplained}
-use Rattle.rules.specs.declared.Outcome.{Outcome}
-use Rattle.rules.specs.declared.Outcome.the-variants.{Done, Refused}
+use Rattle.rules.specs.declared.Outcome.the-variants.{Done}
 use Rattle.rules.specs.declared.Verdict.the-variants as verdict
+use Rattle.rules.proofs.Outcomes.{is-done}
 use Rattle.rules.proofs.Same.{same-equal}
 use Rattle.demands.specs.Witness.{activatedChild, witness}
 use Rattle.demands.proofs.Numbers.{last-or}
@@ -75,12 +75,8 @@ use Rattle.demands.proofs.Witness.{witness-explains}
 use Rattle.demands.proofs.PlanByPlan.{explained-fewer, unexplained as not-explained}
 use Rattle.demands.proofs.Accepted.{table-done}
 
--- A record whose steps pass a computed test is accepted: the witness's picks lead to the states shown. Where they lead a plan elsewhere, and
--- the plans before it to what is shown, it is refused there.
-is-done : (o : Outcome) → T (isDone o) → o ≡ Done
-is-done Done h = refl
-is-done (Refused why) h = absurd h
-
+-- A record whose steps pass a computed test is accepted: the witness's picks lead to the states shown. Where they lead a plan elsewhere,
+-- and the plans before it to what is shown, it is refused there.
 module _ (rule : ℕ) (t r : List ℕ) where
   abbrev leads : ℕ → List ℕ
   leads i = stepUnder rule t (statesBefore t r i) (wordsOf t r i) (witness t (statesBefore t r i) (statesOf t r i))

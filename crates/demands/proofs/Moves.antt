@@ -126,15 +126,15 @@ pub move-moved :
 move-moved o e x lost mayComplete parent old = record { goesThere = move-goes o e x lost mayComplete parent old }
 
 -- A test of moves that passes for all states and orders holds of each move.
-bools : (Bool → Bool) → Bool
+unfoldable pub bools : (Bool → Bool) → Bool
 bools f = f true && f false
 
-of-bools : (f : Bool → Bool) → T (bools f) → (b : Bool) → T (f b)
+pub of-bools : (f : Bool → Bool) → T (bools f) → (b : Bool) → T (f b)
 unfolding bools
 of-bools f h true = left (f true) (f false) h
 of-bools f h false = right (f true) (f false) h
 
-everyOrders : (Orders → Bool) → Bool
+unfoldable pub everyOrders : (Orders → Bool) → Bool
 unfolding bools
 everyOrders f = bools (λ c. bools (λ a. bools (λ r. f (record { considers = c; activates = a; retries = r }))))
 
@@ -146,11 +146,11 @@ of-everyOrders f h o =
     let h₂ = of-bools (λ a. bools (λ r. g (o .considers) a r)) h₁ (o .activates) in
     of-bools (g (o .considers) (o .activates)) h₂ (o .retries)
 
-everyMove : (PlanState → Orders → PlanState → PlanState → Bool) → Bool
+unfoldable pub everyMove : (PlanState → Orders → PlanState → PlanState → Bool) → Bool
 unfolding everyOrders
 everyMove f = every (λ parent. everyOrders (λ o. every (λ old. every (λ new. goes parent o old new ⇒ f parent o old new))))
 
-of-everyMove :
+pub of-everyMove :
     (f : PlanState → Orders → PlanState → PlanState → Bool) → T (everyMove f)
     → (parent : PlanState) (o : Orders) (old new : PlanState) → T (goes parent o old new) → T (f parent o old new)
 unfolding everyMove

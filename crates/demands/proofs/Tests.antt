@@ -54,17 +54,15 @@ cond-by P false f g = g tt
 -- where one test is passed, so is another
 infixr 5 _⇒_
 abbrev pub _⇒_ : Bool → Bool → Bool
-a ⇒ b = b || not a
+a ⇒ b = not a || b
 
 pub given : (a b : Bool) → T (a ⇒ b) → T a → T b
-given a true h k = tt
-given true false h k = h
-given false false h k = k
+given true b h k = h
+given false b h k = absurd k
 
 pub given₂ : (a b c : Bool) → T (a ⇒ b ⇒ c) → T a → T b → T c
 given₂ a b c h x = given b c (given a (b ⇒ c) h x)
 
 pub arrow : (a b : Bool) → (T a → T b) → T (a ⇒ b)
-arrow a true f = tt
-arrow true false f = f tt
-arrow false false f = tt
+arrow true b f = f tt
+arrow false b f = tt

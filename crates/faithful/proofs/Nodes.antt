@@ -17,8 +17,9 @@ use Rattle.rules.specs.Answers.{tooMany, strayFirst, badBytes, badNode, badRank
 use Rattle.rules.specs.declared.Node.{Node}
 use Rattle.rules.specs.declared.Outcome.the-variants.{Done}
 use Rattle.rules.proofs.Outcomes.{pass, pass-at, pass-at-last}
+use Rattle.rules.proofs.Below.{none-below}
 use Rattle.rules.proofs.Tree.{Passes}
-use Rattle.nodes.proofs.Uses.{count-append, none-below}
+use Rattle.nodes.proofs.Uses.{count-append}
 use Rattle.nodes.proofs.Standing.{first-stands}
 use Rattle.versions.specs.Versions.{nodesBefore}
 use Rattle.versions.proofs.Laid.{node-more, node-same, nodes-rise-past, Numbered, node-of}

@@ -14,8 +14,7 @@ use Rattle.rules.specs.declared.Asks.{Asks}
 use Rattle.rules.specs.declared.Asks.the-variants.{AtLeast}
 use Rattle.rules.specs.declared.Outcome.the-variants.{Done}
 use Rattle.rules.proofs.Tree.{or-left, or-right}
-use Rattle.nodes.proofs.Uses.{none-below}
-use Rattle.nodes.proofs.Owners.{none-true}
+use Rattle.rules.proofs.Below.{none-below, none-true}
 use Rattle.nodes.proofs.Standing.{good, first-there, some-begins, first-stands}
 use Rattle.versions.specs.Versions.{numberWaited, otherKind}
 use Rattle.versions.proofs.Laid.{Numbered}

@@ -11,8 +11,7 @@ use borrow.Author.Tests.{leb-false, lt-leb, not-true}
 use Rattle.rules.specs.Lists.{someBelow}
 use Rattle.rules.specs.Table.{planCount, entry}
 use Rattle.rules.specs.WaitFor.{nodeCount, isLeaf}
-use Rattle.nodes.proofs.Uses.{none-below}
-use Rattle.nodes.proofs.Owners.{none-true}
+use Rattle.rules.proofs.Below.{none-below, none-true}
 use Rattle.versions.specs.Versions.{nodesBefore, inPlanOrder}
 use Rattle.versions.proofs.Laid.{nodes-rise, nodes-rise-past, Numbered, node-of}
 use Rattle.faithful.proofs.Passing.{MayMoveTo1}

@@ -1,4 +1,4 @@
--- Laws of checks 10 to 12, and of calls that pass. Assumes nothing.
+-- Laws of checks 10 to 12, and of what a call that passes lets do. Assumes nothing.
 use Prim.Native.Nat.{ℕ, _+_, _*_, _≤_, _<_}
 use native.Mathlib.Omega.{arith}
 use mathlib.Core.Path.{_≡_, sym, _∙_}
@@ -6,22 +6,17 @@ use mathlib.Core.Bool.{true, false, not, _||_}
 use mathlib.Core.List.{List}
 use lib.Dec.{eqb}
 use lib.ListN.{length}
-use borrow.Author.Tests.{eqb-true, not-false}
 use Rattle.rules.specs.Bytes.{byteAt}
 use Rattle.rules.specs.Table.{planCount, entry}
 use Rattle.rules.specs.Words.{word}
 use Rattle.rules.specs.HandedIn.{badState}
-use Rattle.rules.specs.Answers.{wrongWord, badWord, ruleCheck, tableCheck, lentCheck, callCheck}
+use Rattle.rules.specs.Answers.{wrongWord, badWord, ruleCheck, tableCheck, callWordsCheck, lentCheck, callCheck}
 use Rattle.rules.specs.declared.PlanEntry.{PlanEntry}
 use Rattle.rules.specs.declared.Refusal.{Refusal}
 use Rattle.rules.specs.declared.Refusal.the-variants.{Lengths, State, Word}
 use Rattle.rules.specs.declared.Outcome.{Outcome}
 use Rattle.rules.specs.declared.Outcome.the-variants.{Done, Refused}
 use Rattle.rules.proofs.Outcomes.{
-  first-done,
-  then-done,
-  if-done,
-  at-done,
   pass,
   stop,
   pass-at,
@@ -32,16 +27,13 @@ use Rattle.rules.proofs.Outcomes.{
   then-stops,
   refused-not-done,
 }
-use Rattle.rules.proofs.Least.{nowhere}
-use Rattle.rules.proofs.Tree.{or-left, or-right, passes, tree}
+use Rattle.rules.proofs.Tree.{passes, tree}
 use Rattle.children.specs.Sets.{Rooted}
 use Rattle.lowest.specs.Lowest.{Lowest}
 use Rattle.table.specs.Facts.{Facts}
 use Rattle.table.proofs.Reading.{found-at, found-none, prepared}
-use Rattle.demands.specs.PassesStates.{PassesStates}
-use Rattle.demands.specs.BranchesAgree.{BranchesAgree}
-use Rattle.demands.proofs.PassedWords.{call-words}
-use Rattle.lent.specs.Calls.{Counted, Called, MayMove}
+use Rattle.demands.proofs.PassedCall.{table-passes, lengths, handed-in}
+use Rattle.lent.specs.Calls.{Counted, Tabled, Called, MayMove}
 
 -- a table that passes: its n plans have earlier parents
 pub rooted : (t : List ℕ) → tableCheck t ≡ Done → (n : ℕ) → n ≡ planCount t → Rooted t n
@@ -60,14 +52,6 @@ pub word-tested :
 unfolding badWord
 word-tested t w n counts counted p l e x ee ex = rw (ee, ex, counted .counted p l)
 
--- check 10 passes: the lengths are right
-pub lengths-agree :
-    (s w : List ℕ) (n : ℕ) → (not (eqb (length s) n) || not (eqb (length w) (4 * n))) ≡ false → (length s ≡ n) × (length w ≡ 4 * n)
-lengths-agree s w n e =
-    let states = not (eqb (length s) n) in
-    let words = not (eqb (length w) (4 * n)) in
-    (eqb-true _ _ (not-false _ (or-left states words e)), eqb-true _ _ (not-false _ (or-right states words e)))
-
 -- checks 10 to 12: where they stop
 module _ (t s w : List ℕ) (n : ℕ) (whole : n ≡ planCount t) where
   pub stops-at-lengths : (not (eqb (length s) n) || not (eqb (length w) (4 * n))) ≡ true → lentCheck t s w ≡ Refused Lengths
@@ -79,41 +63,30 @@ module _ (t s w : List ℕ) (n : ℕ) (whole : n ≡ planCount t) where
     unfolding lentCheck
     stops-at-state p lowest l = pass _ _ _ (rw whole at agree) ∙ stop-at _ _ _ p (found-at t n whole _ p lowest l)
 
-    module _ (r : ℕ) (states : Lowest (badState t s) n r) (none : n ≤ r) (p : ℕ) (lowest : Lowest (badWord t w) n p) where
-      pub by-words : (p < n → lentCheck t s w ≡ Refused (Word 0 p)) × (n ≤ p → lentCheck t s w ≡ Done)
-      unfolding lentCheck
-      by-words =
-          let left = pass _ _ _ (rw whole at agree) ∙ pass-at _ _ _ (found-none t n whole _ r states none) in (
-            λ l. left ∙ stop-at-last _ _ p (found-at t n whole _ p lowest l),
-            λ l. left ∙ pass-at-last _ _ (found-none t n whole _ p lowest l),
-          )
+    pub only-words : (r : ℕ) → Lowest (badState t s) n r → n ≤ r → lentCheck t s w ≡ callWordsCheck t w
+    unfolding lentCheck
+    only-words r states none = pass _ _ _ (rw whole at agree) ∙ pass-at _ _ _ (found-none t n whole _ r states none)
 
--- A call that passes: its table, what is lent with it, and of that the lengths and the states.
-module _ (rule : ℕ) (t s w : List ℕ) (done : callCheck rule t s w ≡ Done) where
-  pub table-passes : tableCheck t ≡ Done
-  unfolding callCheck
-  table-passes = first-done (tableCheck t) _ (then-done (ruleCheck rule) _ done)
+-- check 12, by the lowest wrong word
+module _ (t w : List ℕ) (n : ℕ) (whole : n ≡ planCount t) (p : ℕ) (lowest : Lowest (badWord t w) n p) where
+  pub wrong-word : p < n → callWordsCheck t w ≡ Refused (Word 0 p)
+  wrong-word l = stop-at-last _ _ p (found-at t n whole _ p lowest l)
 
-  pub lent-passes : lentCheck t s w ≡ Done
-  unfolding callCheck
-  lent-passes = then-done (tableCheck t) _ (then-done (ruleCheck rule) _ done)
+  pub right-words : n ≤ p → callWordsCheck t w ≡ Done
+  right-words l = pass-at-last _ _ (found-none t n whole _ p lowest l)
 
-  pub lengths : (length s ≡ planCount t) × (length w ≡ 4 * planCount t)
-  unfolding lentCheck
-  lengths = lengths-agree s w (planCount t) (if-done _ _ (first-done _ _ lent-passes))
-
-  pub handed-in : PassesStates t s
-  unfolding lentCheck
-  handed-in =
-      record {
-        long = lengths .0;
-        unbroken = nowhere (badState t s) (planCount t) (at-done _ _ (first-done _ _ (then-done _ _ lent-passes)));
-      }
-
-  -- and of its words
-  pub words-in : BranchesAgree t w
-  unfolding lentCheck
-  words-in = call-words t w (nowhere (badWord t w) (planCount t) (at-done _ _ (then-done _ _ (then-done _ _ lent-passes))))
+-- a table that passes, its numbers of children and as many words
+pub counted : (t counts w : List ℕ) → Tabled t counts → (n : ℕ) → n ≡ planCount t → length w ≡ 4 * n → Counted t n counts w
+counted t counts w tabled n whole long =
+    let shape = rooted t (tabled .done) n whole in
+    record {
+      whole = whole;
+      small = shape .small;
+      room = shape .room;
+      counts-room = omega (arith, whole, tabled .room);
+      words-room = omega (arith, long);
+      counted = λ q l. tabled .counted q (omega (arith, whole));
+    }
 
 -- a call's checks are that of its rule number, its table's, and then those of what is lent with it
 module _ (rule : ℕ) (t s w ranks counts names : List ℕ) where

@@ -1,5 +1,5 @@
--- One answer: any two that the contract of `check_call`, `wrong_word_if` or `unused_bits` permits are equal, and so is what the buffers of a call
--- that passes then hold of the table's plans. The contract is taken as Rattle reads it. Assumes nothing.
+-- One answer: any two that the contract of `check_call`, `check_words`, `wrong_word_if` or `unused_bits` permits are equal, and so is what
+-- the buffers of a call that passes then hold of the table's plans. The contract is taken as Rattle reads it. Assumes nothing.
 use mathlib.Core.Path.{_≡_, _∙_}
 use contract.Lifetimes.{Lfts}
 use denote.Ref.{now}
@@ -9,11 +9,12 @@ use Rattle.rules.specs.declared.Outcome.the-variants.{Done}
 use Rattle.rules.proofs.Unique.{one-answer, OneAnswer, by-equation}
 use Rattle.table.proofs.Unique.{SameFacts, facts-once}
 use Rattle.lent.proofs.check_call.Reads as check-call
+use Rattle.lent.proofs.check_words.Reads as check-words
 use Rattle.lent.proofs.unused_bits.Reads as unused-bits
 use Rattle.lent.proofs.wrong_word_if.Reads as wrong-word-if
 
-pub words-once : OneAnswer wrong-word-if.Post × OneAnswer unused-bits.Post
-words-once = (by-equation, by-equation)
+pub words-once : OneAnswer check-words.Post × OneAnswer wrong-word-if.Post × OneAnswer unused-bits.Post
+words-once = (by-equation, by-equation, by-equation)
 
 pub check-call-once : OneAnswer check-call.Post
 check-call-once = record { once = λ κs a z z′ e e′ h h′. one-answer (h .is) (h′ .is) }

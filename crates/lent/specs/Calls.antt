@@ -21,6 +21,7 @@ pub record Planned (t : List ℕ) (n : ℕ) (s : List ℕ) : Type 0 where
 
 -- the n plans' numbers of children, and words for all of them
 pub record Counted (t : List ℕ) (n : ℕ) (counts w : List ℕ) : Type 0 where
+  pub whole : n ≡ planCount t
   pub small : n ≤ 256
   pub room : 8 + 8 * n ≤ length t
   pub counts-room : n ≤ length counts

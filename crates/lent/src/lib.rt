@@ -6,7 +6,7 @@ ghost use lib.Dec.{eqb};
 ghost use Rattle.rules.specs.Words.{pickAllowed, contradicts};
 ghost use Rattle.rules.specs.Step.{done};
 ghost use Rattle.rules.specs.HandedIn.{suits, letsLater, badState};
-ghost use Rattle.rules.specs.Answers.{wrongWord, badWord, lentCheck};
+ghost use Rattle.rules.specs.Answers.{wrongWord, badWord, callWordsCheck, lentCheck};
 ghost use Rattle.table.specs.Facts.{FactsRoom};
 ghost use Rattle.lowest.specs.Lowest.{Lowest};
 ghost use Rattle.lent.specs.BodyRule.{standsAlone, breaksBy};
@@ -48,6 +48,21 @@ pub fn check_call(
     }
 }
 
+// Check 12 of the words of a call, which are as many as the n plans of its table.
+pub fn check_words(table: &[u8], n: usize, counts: &[u8], words: &[u8]) -> Outcome
+    requires { ⌜ Counted (now table) n (now counts) (now words) ⌝ }
+    ensures { λ r. ⌜ r ≡ callWordsCheck (now (table .entry)) (now (words .entry)) ⌝ }
+{
+    let word = lowest_bad_word(table, n, counts, words);
+    if word < n {
+        return Outcome::Refused(Refusal::Word {
+            step: 0,
+            plan: word as u16,
+        });
+    }
+    Outcome::Done
+}
+
 // The part of check 12 that calls and records share, by the bits that the word may not have and whether its pick is allowed: an unused
 // bit, a wrong pick, or filter, setup or if-then-else satisfied but not satisfiable.
 pub fn wrong_word_if(x: u32, unused: u32, pick_allowed: bool) -> bool
@@ -80,14 +95,7 @@ fn check_lent(table: &[u8], counts: &[u8], states: &[u8], words: &[u8]) -> Outco
     if state < n {
         return Outcome::Refused(Refusal::State { plan: state as u16 });
     }
-    let word = lowest_bad_word(table, n, counts, words);
-    if word < n {
-        return Outcome::Refused(Refusal::Word {
-            step: 0,
-            plan: word as u16,
-        });
-    }
-    Outcome::Done
+    check_words(table, n, counts, words)
 }
 
 // Check 11: the lowest plan that breaks a rule together with lower plans, or n. One pass: what counts of the lower children is marked

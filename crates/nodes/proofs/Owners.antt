@@ -35,6 +35,7 @@ use Rattle.rules.specs.declared.Outcome.the-variants.{Refused}
 use Rattle.rules.specs.declared.PlanEntry.{PlanEntry}
 use Rattle.rules.specs.declared.Refusal.the-variants.{Formula}
 use Rattle.rules.proofs.Least.{nowhere}
+use Rattle.rules.proofs.Below.{none-below, none-true}
 use Rattle.rules.proofs.Outcomes.{pass, stop, pass-at, stop-at, then-stops}
 use Rattle.children.specs.Sets.{Empty, setOf}
 use Rattle.children.proofs.Sets.{set-ones}
@@ -42,7 +43,6 @@ use Rattle.lowest.specs.Lowest.{Lowest}
 use Rattle.lowest.proofs.Lowest.{lowest-at, lowest-none, ends-here}
 use Rattle.nodes.specs.Checking.{HasNodes, Uses, asksNode, joins, badOperands, FirstOwners, Owners, asking}
 use Rattle.nodes.proofs.Operands.{operands-are}
-use Rattle.nodes.proofs.Uses.{none-below as none-passes}
 
 -- the highest number that is found is below those looked through
 bounded : (b : Bool) (n x : ℕ) → x ≤ n → cond b n x ≤ n
@@ -161,9 +161,9 @@ operands-have e j = rw (operands-are e) (go (asksNode e) (joins e) (joins-asks e
     go false false h = refl
 
 -- a good node uses none up to itself: this is why its owner is known when its turn comes
-none-below : (f g : ℕ → Bool) (l : List ℕ) → ((o : ℕ) → f o ≡ false → g o ≡ false) → some f l ≡ false → some g l ≡ false
-none-below f g [] h e = refl
-none-below f g (o ∷ l) h e = go (f o) refl e (none-below f g l h)
+none-in : (f g : ℕ → Bool) (l : List ℕ) → ((o : ℕ) → f o ≡ false → g o ≡ false) → some f l ≡ false → some g l ≡ false
+none-in f g [] h e = refl
+none-in f g (o ∷ l) h e = go (f o) refl e (none-in f g l h)
   where
     go : (b : Bool) → f o ≡ b → (b || some f l) ≡ false → (some f l ≡ false → some g l ≡ false) → (g o || some g l) ≡ false
     go true is e rest = absurd (true≢false e)
@@ -177,7 +177,7 @@ not-up-to i k j o h e = go (leb o i) refl e
     go false is e = ne-eqb j o (λ q. omega (arith, leb-false o i is))
 
 uses-above : (t : List ℕ) (i k j : ℕ) → badOperands (asks (node t i)) i k ≡ false → j ≤ i → usesNode t j i ≡ false
-uses-above t i k j good h = none-below (λ o. leb o i || leb k o) (eqb j) (operands (asks (node t i))) (λ o. not-up-to i k j o h) good
+uses-above t i k j good h = none-in (λ o. leb o i || leb k o) (eqb j) (operands (asks (node t i))) (λ o. not-up-to i k j o h) good
 
 -- before the first pass nobody owns anything
 pub no-owners : (t owners : List ℕ) → Empty 256 owners × (length owners ≡ 256) → FirstOwners t 0 owners
@@ -422,21 +422,8 @@ unfolding firstNodes askedNodes
 no-uses t buffer empty room = record { room = room; used = λ j l. empty j l }
 
 -- a search finds something if and only if there is something
-pub none-true : (f : ℕ → Bool) (n : ℕ) → someBelow f n ≡ false → (j : ℕ) → j < n → f j ≡ false
-unfolding someBelow
-none-true f zero h j l = absurd (omega arith)
-none-true f (suc n) h j l = go (someBelow f n) (f n) refl refl h (none-true f n) (ℕ-discrete j n)
-  where
-    go :
-        (x y : Bool) → someBelow f n ≡ x → f n ≡ y → (x || y) ≡ false
-        → (someBelow f n ≡ false → (i : ℕ) → i < n → f i ≡ false) → Dec (j ≡ n) → f j ≡ false
-    go true y ex ey h before d = absurd (true≢false h)
-    go false true ex ey h before d = absurd (true≢false h)
-    go false false ex ey h before (yes q) = rw q ey
-    go false false ex ey h before (no q) = before ex j (omega arith)
-
 least-some : (f : ℕ → Bool) (n : ℕ) (x : Found) → least f n ≡ x → someBelow f n ≡ true → (p : ℕ) × (least f n ≡ At p)
-least-some f n Nowhere e h = absurd (true≢false (sym h ∙ none-passes f n (nowhere f n e)))
+least-some f n Nowhere e h = absurd (true≢false (sym h ∙ none-below f n (nowhere f n e)))
 least-some f n (At p) e h = (p, e)
 
 least-none : (f : ℕ → Bool) (n : ℕ) → someBelow f n ≡ false → least f n ≡ Nowhere

@@ -28,7 +28,8 @@ use Rattle.rules.specs.declared.Outcome.the-variants.{Done}
 use Rattle.rules.proofs.Least.{nowhere}
 use Rattle.rules.proofs.Outcomes.{first-done, then-done, at-done}
 use Rattle.rules.proofs.Tree.{or-left, or-right}
-use Rattle.nodes.proofs.Uses.{count-append, none-below, some-below}
+use Rattle.rules.proofs.Below.{none-below, some-below}
+use Rattle.nodes.proofs.Uses.{count-append}
 use Rattle.nodes.proofs.Owners.{owner-by, eqb-swap}
 
 -- what passes a test alone is the highest that does

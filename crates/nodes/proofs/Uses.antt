@@ -1,18 +1,18 @@
--- How the uses of nodes are counted, and what a search for a first node that is not there finds. Assumes nothing.
+-- How the uses of nodes are counted. Assumes nothing.
 use Prim.Native.Nat.{ℕ, zero, suc, _+_, _<_}
 use native.Mathlib.Omega.{arith}
 use native.Mathlib.Nat.{add-zero}
 use native.Mathlib.Numerals.{add-one}
 use native.Mathlib.Decide.{ℕ-discrete}
 use mathlib.Core.Path.{_≡_, refl, sym, ap, ap₂, _∙_}
-use mathlib.Core.Bool.{Bool, true, false, cond, not, _&&_, _||_, and-false, or-true, or-false}
+use mathlib.Core.Bool.{Bool, true, false, cond, not, _&&_, _||_, and-false, or-false}
 use mathlib.Core.List.{List, [], _∷_, _++_}
 use lib.Dec.{eqb, leb, ltb}
 use lib.ListN.{length, set, length-set}
 use lib.Seq.{getD-set-same, getD-set-other}
 use borrow.Author.Tests.{lt-leb, leb-false, eq-eqb, ne-eqb}
 use Rattle.rules.specs.Bytes.{byteAt}
-use Rattle.rules.specs.Lists.{count, some, someBelow}
+use Rattle.rules.specs.Lists.{count, some}
 use Rattle.rules.specs.Table.{entry}
 use Rattle.rules.specs.WaitFor.{asks, operands, node, isLeaf, firstNodes, askedNodes, uses}
 use Rattle.rules.specs.Answers.{badBytes, badNode}
@@ -161,19 +161,3 @@ bad-node-is t n k i buffer has known l =
     (ap (λ (b : ℕ). eqb b 1) (known .used i l)
     ∙ capped-one (usedBy t n k i)
     ∙ ap₂ (λ (n k : ℕ). eqb (usedBy t n k i) 1) (has .whole) (has .nodes)))
-
--- a search through all that are below n
-module _ (f : ℕ → Bool) where
-  pub none-below : (n : ℕ) → ((k : ℕ) → k < n → f k ≡ false) → someBelow f n ≡ false
-  unfolding someBelow
-  none-below zero none = refl
-  none-below (suc n) none = simp (none-below n (λ k l. none k (omega arith)), none n (omega arith))
-
-  pub some-below : (n k : ℕ) → k < n → f k ≡ true → someBelow f n ≡ true
-  unfolding someBelow
-  some-below zero k l is = absurd (omega arith)
-  some-below (suc n) k l is = go (ℕ-discrete k n) (λ m. some-below n k m is)
-    where
-      go : Dec (k ≡ n) → (k < n → someBelow f n ≡ true) → (someBelow f n || f n) ≡ true
-      go (yes e) below = rw (sym e) (rw is (or-true (someBelow f k)))
-      go (no e) below = simp (below (omega arith))

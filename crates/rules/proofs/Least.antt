@@ -40,3 +40,19 @@ nowhere-from f p (suc k) h j l m = go (f p) refl h (nowhere-from f (p + 1) k) (�
 
 pub nowhere : (f : ℕ → Bool) (n : ℕ) → leastFrom f 0 n ≡ Nowhere → (j : ℕ) → j < n → f j ≡ false
 nowhere f n h j l = nowhere-from f 0 n h j (omega arith) (omega arith)
+
+-- and below what was found
+passed-from : (f : ℕ → Bool) (p k r : ℕ) → leastFrom f p k ≡ At r → (j : ℕ) → p ≤ j → j < r → f j ≡ false
+unfolding leastFrom
+passed-from f p zero r h j l m = let z : _≡_ {A = ℕ} 0 1 = cc in absurd (omega arith)
+passed-from f p (suc k) r h j l m = go (f p) refl h (passed-from f (p + 1) k r) (ℕ-discrete j p)
+  where
+    go :
+        (b : Bool) → f p ≡ b → elim b as (λ _. Found) [ true ↦ At p | false ↦ leastFrom f (p + 1) k ] ≡ At r
+        → (leastFrom f (p + 1) k ≡ At r → (i : ℕ) → p + 1 ≤ i → i < r → f i ≡ false) → Dec (j ≡ p) → f j ≡ false
+    go true e x ih d = let z : p ≡ r = cc in absurd (omega arith)
+    go false e x ih (yes y) = rw y e
+    go false e x ih (no y) = ih x j (omega arith) m
+
+pub passed-over : (f : ℕ → Bool) (n r : ℕ) → leastFrom f 0 n ≡ At r → (j : ℕ) → j < r → f j ≡ false
+passed-over f n r h j l = passed-from f 0 n r h j (omega arith) l

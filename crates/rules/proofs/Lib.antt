@@ -4,6 +4,7 @@ pub mod Codes
 pub mod Digits
 pub mod Known
 pub mod Least
+pub mod Below
 pub mod Outcomes
 pub mod Tree
 pub mod Same

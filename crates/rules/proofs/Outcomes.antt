@@ -3,8 +3,9 @@ use Prim.Native.Nat.{ℕ}
 use native.Mathlib.Omega.{arith}
 use mathlib.Core.Path.{_≡_, refl, sym, ap, _∙_}
 use mathlib.Core.Bool.{Bool, true, false, not}
+use lib.Dec.{T}
 use Rattle.rules.specs.Lists.{Found, Nowhere, At}
-use Rattle.rules.specs.Answers.{_andThen_, refuseIf, refuseAt, isRule, ruleCheck}
+use Rattle.rules.specs.Answers.{_andThen_, isDone, refuseIf, refuseAt, isRule, ruleCheck}
 use Rattle.rules.specs.declared.Refusal.{Refusal}
 use Rattle.rules.specs.declared.Refusal.the-variants.{RuleNumber}
 use Rattle.rules.specs.declared.Outcome.{Outcome}
@@ -12,6 +13,11 @@ use Rattle.rules.specs.declared.Outcome.the-variants.{Done, Refused}
 
 pub refused-not-done : {A : Type 0} (why : Refusal) → Refused why ≡ Done → A
 refused-not-done why e = let z : _≡_ {A = ℕ} 0 1 = cc in absurd (omega arith)
+
+-- a test of an outcome
+pub is-done : (o : Outcome) → T (isDone o) → o ≡ Done
+is-done Done h = refl
+is-done (Refused why) h = absurd h
 
 pub first-done : (a b : Outcome) → (a andThen b) ≡ Done → a ≡ Done
 unfolding _andThen_

@@ -282,13 +282,17 @@ module _ (t : List ℕ) where
   unfoldable pub badRecordWord : List ℕ → ℕ → Bool
   badRecordWord w p = wrongWordIf (bodyOf (entry t p)) (eqb (pickOf (word w p)) 0) (word w p)
 
+  -- 12, of all words of a call
+  abbrev pub callWordsCheck : List ℕ → Outcome
+  callWordsCheck w = refuseAt (Word 0) (least (badWord w) (planCount t))
+
   -- 10 to 12
   unfoldable pub lentCheck : List ℕ → List ℕ → Outcome
   unfolding badState badWord
   lentCheck s w =
       refuseIf (not (eqb (length s) (planCount t)) || not (eqb (length w) (4 * planCount t))) Lengths
       andThen refuseAt State (least (badState t s) (planCount t))
-      andThen refuseAt (Word 0) (least (badWord w) (planCount t))
+      andThen callWordsCheck w
 
 -- what the run answers
 abbrev pub restAnswer : Found → Rest

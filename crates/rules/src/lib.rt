@@ -420,6 +420,13 @@ pub enum Rest {
     Refused(Refusal),
 }
 
+// What a question for the most steps to rest answers: so many, or that no figure is known.
+pub enum Bound {
+    Within(u16),
+    Unknown,
+    Refused(Refusal),
+}
+
 // Whether there is a rule of this number: 1, the old one, or 2, the new one.
 pub fn is_rule(rule: u32) -> bool
     ensures { λ r. ⌜ r ≡ isRule rule ⌝ }

@@ -17,8 +17,7 @@ use Rattle.rules.specs.declared.Outcome.the-variants.{Done}
 use Rattle.rules.proofs.Outcomes.{first-done, then-done, pass, pass-at, then-next}
 use Rattle.lowest.proofs.Lowest.{ends-here, lowest-none}
 use Rattle.demands.specs.PassesStates.{PassesStates}
-use Rattle.step.proofs.Rests.{after-passes}
-use Rattle.lent.proofs.Calls.{table-passes, lent-passes, lengths, handed-in, words-in}
+use Rattle.demands.proofs.PassedCall.{table-passes, lent-passes, lengths, handed-in, words-in, after-passes}
 
 module _ (rule : ℕ) (t s w : List ℕ) (done : callCheck rule t s w ≡ Done) where
   -- with the same words, other states that pass check 11 are as good

@@ -1,5 +1,5 @@
 -- Laws of the run to rest: what is known while no step has been without change, and what ends it. Assumes nothing.
-use Prim.Native.Nat.{ℕ, zero, suc, _+_, _≤_, _<_}
+use Prim.Native.Nat.{ℕ, suc, _+_, _≤_, _<_}
 use native.Mathlib.Omega.{arith}
 use native.Mathlib.Numerals.{add-one}
 use mathlib.Core.Path.{_≡_, refl, sym, ap, _∙_}
@@ -7,33 +7,22 @@ use mathlib.Core.Bool.{Bool, true, false}
 use mathlib.Core.List.{List}
 use borrow.Author.Count.{below-none, below-more}
 use Rattle.rules.specs.Lists.{same}
-use Rattle.rules.specs.Words.{word, pickOf}
 use Rattle.rules.specs.Step.{step}
 use Rattle.rules.specs.Rest.{after, settled, leastRest, statesAt}
-use Rattle.rules.specs.Answers.{tableCheck, callCheck, restAnswer, runAnswer, runStates}
+use Rattle.rules.specs.Answers.{callCheck, restAnswer, runAnswer, runStates}
 use Rattle.rules.specs.declared.Refusal.{Refusal}
 use Rattle.rules.specs.declared.Outcome.the-variants as outcome
 use Rattle.rules.specs.declared.Rest.{Rest}
 use Rattle.rules.specs.declared.Rest.the-variants.{Rested, Moving, Refused}
 use Rattle.lowest.proofs.Lowest.{lowest-at, lowest-none, stops-here, ends-here}
-use Rattle.demands.specs.PassesStates.{PassesStates}
 use Rattle.demands.specs.BranchesAgree.{BranchesAgree}
-use Rattle.demands.proofs.Valid.{step-passes}
+use Rattle.demands.proofs.PassedCall.{after-passes}
 use Rattle.lent.specs.Calls.{MayMove}
 
 -- after k steps, none of which was without change, the states are these
 pub record Running (rule : ℕ) (t s w : List ℕ) (k : ℕ) (states : List ℕ) : Type 0 where
   pub is : states ≡ after rule t s w k
   pub moved : (j : ℕ) → j < k → settled rule t s w j ≡ false
-
--- what passes check 11 goes on passing it
-pub after-passes :
-    (rule : ℕ) (t s w : List ℕ) → tableCheck t ≡ outcome.Done → PassesStates t s → BranchesAgree t w → (k : ℕ)
-    → PassesStates t (after rule t s w k)
-unfolding after step
-after-passes rule t s w done passes words zero = passes
-after-passes rule t s w done passes words (suc k) =
-    step-passes rule t (after rule t s w k) w (λ q. pickOf (word w q)) done (after-passes rule t s w done passes words k) words
 
 module _ (rule : ℕ) (t s w ranks names : List ℕ) (moves : MayMove t s w ranks names) (words : BranchesAgree t w) where
   moves-after : (k : ℕ) → MayMove t (after rule t s w k) w ranks names

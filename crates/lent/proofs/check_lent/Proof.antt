@@ -1,16 +1,13 @@
 -- `check_lent` meets its contract: where each check stops. Assumes nothing.
-use mathlib.Core.Path.{_≡_, sym}
-use Prim.Native.Nat.{_*_, _≤_, _<_}
+use mathlib.Core.Path.{_≡_, sym, _∙_}
+use Prim.Native.Nat.{_*_}
 use native.Mathlib.Omega.{arith}
 use denote.Ref.{now}
 use lib.ListN.{length}
 use borrow.Author.Needs.{needs}
-use Rattle.rules.specs.Answers.{lentCheck}
-use Rattle.rules.specs.declared.Refusal.the-variants.{Word}
-use Rattle.rules.specs.declared.Outcome.{Outcome}
-use Rattle.rules.specs.declared.Outcome.the-variants.{Done, Refused}
 use Rattle.rules.proofs.Tree.{passes, tree}
-use Rattle.lent.proofs.Calls.{lengths-agree, stops-at-lengths, stops-at-state, by-words, rooted}
+use Rattle.demands.proofs.PassedCall.{lengths-agree}
+use Rattle.lent.proofs.Calls.{stops-at-lengths, stops-at-state, only-words, rooted, counted}
 use Rattle.lent.proofs.check_lent.Statement.{statement}
 use Rattle.lent.proofs.check_lent.Tie as tie
 
@@ -48,42 +45,18 @@ returns-2 c =
     (stops-at-state _ _ _ _ (lengths .before .u16-at .ensures) (lengths .if1 .left) _ (c .before .lowest-bad-state .ensures)
     (c .if2 .taken))
 
-lowest-bad-word-requires : tie.Need-lowest-bad-word-requires
-lowest-bad-word-requires c κs =
+check-words-requires : tie.Need-check-words-requires
+check-words-requires c κs =
     let lengths = c .before .before in
-    let tabled = start-of lengths .pre in
-    let whole = lengths .before .u16-at .ensures in
-    let tree = rooted _ (tabled .done) _ whole in
-    record {
-      small = tree .small;
-      room = tree .room;
-      counts-room = omega (arith, whole, tabled .room);
-      words-room = omega (arith, agreed lengths .1);
-      counted = λ q l. tabled .counted q (omega (arith, whole));
-    }
-
--- checks 10 and 11 have passed: the lowest wrong word decides
-module _ (c : tie.After-lowest-bad-word) where
-  abbrev lengths : tie.Else1
-  lengths = c .before .before .before
-
-  abbrev answer : Outcome
-  answer =
-      let args = start-of lengths .args in
-      lentCheck (now (args .table)) (now (args .states)) (now (args .words))
-
-  words-decide :
-      (c .lowest-bad-word .result < lengths .before .u16-at .result → answer ≡ Refused (Word 0 (c .lowest-bad-word .result)))
-      × (lengths .before .u16-at .result ≤ c .lowest-bad-word .result → answer ≡ Done)
-  words-decide =
-      by-words _ _ _ _ (lengths .before .u16-at .ensures) (lengths .if1 .left) _ (c .before .before .lowest-bad-state .ensures)
-      (c .before .if2 .left) _ (c .lowest-bad-word .ensures)
+    counted _ _ _ (start-of lengths .pre) _ (lengths .before .u16-at .ensures) (agreed lengths .1)
 
 returns-3 : tie.Need-returns-3
-returns-3 c = sym (words-decide (c .before) .0 (c .if3 .taken))
-
-returns-4 : tie.Need-returns-4
-returns-4 c = sym (words-decide (c .before) .1 (c .if3 .left))
+returns-3 c =
+    let lengths = c .before .before .before in
+    c .check-words .ensures
+    ∙ sym
+    (only-words _ _ _ _ (lengths .before .u16-at .ensures) (lengths .if1 .left) _ (c .before .before .lowest-bad-state .ensures)
+    (c .before .if2 .left))
 
 pub check-lent-spec : {M : Type 1} → statement M
 check-lent-spec =
@@ -96,7 +69,5 @@ check-lent-spec =
     lowest-bad-state-requires
     (λ c. search needs)
     returns-2
-    lowest-bad-word-requires
-    (λ c. search needs)
-    returns-3
-    returns-4)
+    check-words-requires
+    returns-3)

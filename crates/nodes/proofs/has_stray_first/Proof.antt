@@ -8,7 +8,7 @@ use borrow.Author.Needs.{needs}
 use denote.Ref.{now}
 use lib.Dec.{leb}
 use Rattle.rules.specs.Answers.{strayFirst}
-use Rattle.nodes.proofs.Uses.{none-below, some-below}
+use Rattle.rules.proofs.Below.{none-below, some-below}
 use Rattle.nodes.proofs.has_stray_first.Statement.{statement}
 use Rattle.nodes.proofs.has_stray_first.Tie as tie
 

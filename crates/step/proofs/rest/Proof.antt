@@ -3,7 +3,8 @@ use mathlib.Core.Path.{sym, _∙_}
 use native.Mathlib.Omega.{arith}
 use borrow.Author.Needs.{needs}
 use Rattle.table.proofs.Reading.{room-for-all}
-use Rattle.lent.proofs.Calls.{may-move, words-in}
+use Rattle.demands.proofs.PassedCall.{words-in}
+use Rattle.lent.proofs.Calls.{may-move}
 use Rattle.step.proofs.Rests.{run-refused, run-done}
 use Rattle.step.proofs.rest.Statement.{statement}
 use Rattle.step.proofs.rest.Tie as tie

@@ -3,7 +3,8 @@ use mathlib.Core.Path.{sym, _∙_}
 use native.Mathlib.Omega.{arith}
 use borrow.Author.Needs.{needs}
 use Rattle.rules.proofs.Tree.{passes}
-use Rattle.lent.proofs.Calls.{table-passes, may-move}
+use Rattle.demands.proofs.PassedCall.{table-passes}
+use Rattle.lent.proofs.Calls.{may-move}
 use Rattle.step.proofs.Leaves.{step-leaves, step-steps}
 use Rattle.step.proofs.step_within.Statement.{statement}
 use Rattle.step.proofs.step_within.Tie as tie

@@ -9,7 +9,7 @@ use denote.Ref.{now}
 use lib.Dec.{eqb}
 use Rattle.rules.specs.WaitFor.{node}
 use Rattle.rules.specs.declared.Node.{Node}
-use Rattle.nodes.proofs.Uses.{none-below, some-below}
+use Rattle.rules.proofs.Below.{none-below, some-below}
 use Rattle.versions.specs.Versions.{otherKind}
 use Rattle.versions.proofs.has_other_kind.Statement.{statement}
 use Rattle.versions.proofs.has_other_kind.Tie as tie
