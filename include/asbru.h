@@ -1,20 +1,20 @@
 /*
  * asbru.h: the rules of Asbru plans, for a host program in C or C++.
  *
- * Three functions over byte buffers that the caller owns: one step, a run to rest, and the checker of treatment records. Two move a table
- * from one version to the other, and three make what a word says of a pattern from how long the pattern has held. All are written in Rattle
- * and proved (crate `tablet`). Link with libasbru.a, which `make` writes for x86-64. docs/RULES.md has the rules in words, in numbered
- * paragraphs; asbru_text.h, which is not proved, has a text for each state, body, kind of node and number.
+ * Four functions over byte buffers that the caller owns: one step, a run to rest, how many steps such a run can take, and the checker of
+ * treatment records. Two move a table from one version to the other, and three make what a word says of a pattern from how long the pattern
+ * has held. All are written in Rattle and proved (crate `tablet`). Link with libasbru.a, which `make` writes for x86-64. docs/RULES.md has
+ * the rules in words, in numbered paragraphs; asbru_text.h, which is not proved, has a text for each state, body, kind of node and number.
  *
  *
  * RULES 1 AND 2
  *
  * asbru_step, asbru_rest and asbru_check take the number of a rule first, one of `enum asbru_rule`; any other number is refused before all
- * else. The rules differ in one thing, the children that are lost to a plan with retry-aborted. Under ASBRU_RULE_1 an Aborted child is lost
- * although the plan would retry it: where wait-for then fails of the children that are left, the plan aborts before any retry. Under
- * ASBRU_RULE_2 an Aborted child of such a plan is not lost, and only Rejected ones are. Without retry-aborted the two agree, and Rejected
- * and Aborted children are lost. Treatments of now go by ASBRU_RULE_2; ASBRU_RULE_1 is for records that were kept before it came. A record
- * does not say by which rule it was kept: whoever keeps both kinds keeps them apart.
+ * else. (asbru_bound takes none: what it answers holds by both.) The rules differ in one thing, the children that are lost to a plan with
+ * retry-aborted. Under ASBRU_RULE_1 an Aborted child is lost although the plan would retry it: where wait-for then fails of the children
+ * that are left, the plan aborts before any retry. Under ASBRU_RULE_2 an Aborted child of such a plan is not lost, and only Rejected ones
+ * are. Without retry-aborted the two agree, and Rejected and Aborted children are lost. Treatments of now go by ASBRU_RULE_2; ASBRU_RULE_1
+ * is for records that were kept before it came. A record does not say by which rule it was kept: whoever keeps both kinds keeps them apart.
  *
  *
  * BUFFERS
@@ -123,12 +123,30 @@
  *   its first children after eight, at the earliest.
  *
  *
+ * HOW LONG A RUN TAKES
+ *
+ * asbru_bound tells before a run how many steps it takes at most. It is asked with the table and the words that the run will hold, and
+ * knows a figure under two premises:
+ * - no plan has ASBRU_RETRY_ABORTED;
+ * - no plan has its suspend and its reactivate both holding under its word. An absent reactivate always holds, so a plan whose suspend
+ *   holds needs a reactivate that is present and does not hold.
+ *   The figure is 6 * n, at most 1536. With a budget of at least the figure asbru_rest rests, after at most as many steps: by both rules
+ * and from all states that it does not refuse, not only from all plans Inactive. So with the figure as its budget a run is never still
+ * moving, and a screen can say how many steps are left at most; a host that makes single steps needs no more of them. The figure is a
+ * promise and no forecast: most runs rest far sooner. A chain of single children can take 5 * n, and we have seen no run that takes more.
+ *   Where a premise fails no figure is known. The run may rest all the same: that depends on the states too. Or it goes on for ever: an
+ * Activated leaf alone whose suspend holds, with reactivate absent, is Suspended, Activated, Suspended, .. as long as the word is held. So
+ * give the run a budget that the screen can wait for, and where it is used up show that the plans still move; their states are then those
+ * of one moment, and no outcome.
+ *   The figure is of held words. Once a word changes, be it a trigger or a pick, ask anew, and count anew from there.
+ *
+ *
  * HOW LONG A PATTERN HAS HELD
  *
  * Times are whole minutes, -ASBRU_MOST_MINUTES to ASBRU_MOST_MINUTES, counted from where the host likes. A time annotation is seven of
- * them, in the order of `enum asbru_bound`: earliest and latest start, earliest and latest finish, least and greatest duration, reference
- * point. The first four are shifts from the reference point. ASBRU_OPEN stands for a bound that is open: any but the least duration,
- * which is 0 or more, and the reference point. A greatest duration below 0 admits nothing.
+ * them, in the order of `enum asbru_time_bound`: earliest and latest start, earliest and latest finish, least and greatest duration,
+ * reference point. The first four are shifts from the reference point. ASBRU_OPEN stands for a bound that is open: any but the least
+ * duration, which is 0 or more, and the reference point. A greatest duration below 0 admits nothing.
  *   A history is at most ASBRU_MOST_SAMPLES samples, their minutes strictly rising, none after the minute of asking. A sample says whether
  * the underlying pattern is true from its minute until the next sample's, the last one through the minute of asking; at all other minutes
  * it counts as not true. asbru_sample makes one.
@@ -159,9 +177,10 @@
  *
  * An answer is number + plan * 2^16 + step * 2^32; asbru_number, asbru_plan and asbru_step_of take it apart. ASBRU_DONE is success, and
  * each function below says what plan and step then are. Any other number of `enum asbru_answer` is a refusal. Checks are made in the order
- * of the numbers, but 17 first and 22 between 8 and 9, each over all plans before the next (asbru_check: 17, 1 to 8, 22, 9, 13, 14, then
- * step by step 12 before 15; a move: 1 to 8, 22, 9, 23, 24; asbru_pattern 18 to 20; asbru_normalise 18, 21, 26), so a refusal is the first
- * thing wrong. `plan` is the lowest plan concerned, of 22 the lowest node; `step` counts from 1; both are 0 where the list names none.
+ * of the numbers, but 17 first and 22 between 8 and 9, each over all plans before the next (asbru_bound: 1 to 8, 22, 9, 10, 12;
+ * asbru_check: 17, 1 to 8, 22, 9, 13, 14, then step by step 12 before 15; a move: 1 to 8, 22, 9, 23, 24; asbru_pattern 18 to 20;
+ * asbru_normalise 18, 21, 26), so a refusal is the first thing wrong. `plan` is the lowest plan concerned, of 22 the lowest node; `step`
+ * counts from 1; both are 0 where the list names none.
  *
  *
  * WHAT A CALL TOUCHES
@@ -170,10 +189,10 @@
  * where the answer's number is ASBRU_DONE: after a refusal they are as they were. Of `output` the bytes of the table are written, which the
  * answer counts, and none past them. Nothing is allocated, nothing is kept from one call to the next, and nothing global is read or
  * written, so calls from several threads are independent as long as no thread writes a buffer that another call uses: tables may be shared,
- * states may not. Every call returns. A call of the first three functions takes about 26 KiB of stack, whatever it is handed, and in
- * version 2 up to 16 KiB more, the deeper a formula goes (256 nodes at most). Its time grows with n and k, of asbru_rest with both for each
- * step taken (at most 65535), of asbru_check with the record's length, of asbru_pattern with the number of samples. A move takes about 6
- * KiB, the calls about patterns less than 1 KiB.
+ * states may not. Every call returns. A call of asbru_step, asbru_rest or asbru_check takes about 26 KiB of stack, whatever it is handed,
+ * and in version 2 up to 16 KiB more, the deeper a formula goes (256 nodes at most). Its time grows with n and k, of asbru_rest with both
+ * for each step taken (at most 65535), of asbru_check with the record's length, of asbru_pattern with the number of samples. asbru_bound
+ * makes no steps: it takes time that grows with n and k, and as a move does about 6 KiB; the calls about patterns take less than 1 KiB.
  */
 #ifndef ASBRU_H
 #define ASBRU_H
@@ -186,7 +205,7 @@ extern "C" {
 #endif
 
 /* Raised by one whenever a function, a format, a number or a rule changes: CHANGELOG.md says how. */
-#define ASBRU_VERSION 7
+#define ASBRU_VERSION 8
 
 /* Limits, and the sizes of what buffers hold. */
 enum asbru_size {
@@ -287,7 +306,7 @@ enum asbru_state {
 #define ASBRU_PICK_BITS ASBRU_PICK(63)
 
 /* The numbers of a time annotation, by their places. */
-enum asbru_bound {
+enum asbru_time_bound {
     ASBRU_EARLIEST_START,
     ASBRU_LATEST_START,
     ASBRU_EARLIEST_FINISH,
@@ -336,10 +355,10 @@ enum asbru_answer {
     ASBRU_REFUSED_UNFIT = 8,
     /* [plan] the wait number, or in version 2 that of an ASBRU_AT_LEAST in the plan's formula, is above the number of named children */
     ASBRU_REFUSED_WAIT = 9,
-    /* the states are not n bytes or the words not 4n; never of asbru_check */
+    /* the states are not n bytes or the words not 4n, of asbru_bound the words not 4n; never of asbru_check */
     ASBRU_REFUSED_LENGTHS = 10,
-    /* [plan] a state is above 8 or breaks a rule, together with the states of plans before it (so of two children the second); never of
-       asbru_check */
+    /* [plan] a state is above 8 or breaks a rule, together with the states of plans before it (so of two children the second); only of
+       asbru_step and asbru_rest */
     ASBRU_REFUSED_STATE = 11,
     /* [plan; of asbru_check the step too] a word has an unused bit, a wrong pick (in a record: any pick bit), ASBRU_IF_SATISFIED without
        ASBRU_IF_SATISFIABLE, one of these two on a plan that is no if-then-else, or filter or setup satisfied but not satisfiable, whether
@@ -354,7 +373,7 @@ enum asbru_answer {
     ASBRU_REFUSED_UNEXPLAINED = 15,
     /* the input is over 65536 bytes: of the programs `aprcheck`, `aptime` and `aptmove`, never of these functions */
     ASBRU_REFUSED_INPUT_LONG = 16,
-    /* the rule number is neither 1 nor 2; looked for before all else */
+    /* the rule number is neither 1 nor 2; looked for before all else, by the calls that take one */
     ASBRU_REFUSED_RULE_NUMBER = 17,
     /* a number of the annotation, the minute of asking or a sample's minute is out of range, however many samples there are */
     ASBRU_REFUSED_VALUE_RANGE = 18,
@@ -392,6 +411,14 @@ uint64_t asbru_step(uint32_t rule, const uint8_t *table, size_t table_length, ui
  */
 uint64_t asbru_rest(uint32_t rule, const uint8_t *table, size_t table_length, uint8_t *states, size_t states_length,
                     const uint8_t *words, size_t words_length, uint16_t budget);
+
+/*
+ * The most steps that a run under these words takes, where that is known: see HOW LONG A RUN TAKES. ASBRU_DONE: plan 0 says that there is
+ * a figure, and step is it, 6 * n; plan 1 says that none is known, and step is 0. Where step is k and plan 0, asbru_rest with this table,
+ * these words and a budget of k or more, by either rule and from whatever states, refuses them or answers plan 0 with a step of at most k.
+ * It writes nothing.
+ */
+uint64_t asbru_bound(const uint8_t *table, size_t table_length, const uint8_t *words, size_t words_length);
 
 /*
  * Whether a treatment record can come from the rules under a table, by the rule named and for some picks. ASBRU_DONE, with plan 0:

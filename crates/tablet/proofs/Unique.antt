@@ -35,11 +35,14 @@ use Rattle.rules.specs.declared.Refusal.the-variants.{
   OutputShort,
   NormalRange,
 }
+use Rattle.rules.specs.declared.Bound.{Bound}
+use Rattle.rules.specs.declared.Bound.the-variants as bound
 use Rattle.rules.proofs.Unique.{one-answer, by-equation, OneAnswer, OneAnswerLeaving}
 use Rattle.demands.proofs.Unique.{judged-once}
 use Rattle.time.proofs.Unique as time
 use Rattle.tablet.proofs.asbru_step.Reads as asbru-step
 use Rattle.tablet.proofs.asbru_rest.Reads as asbru-rest
+use Rattle.tablet.proofs.asbru_bound.Reads as asbru-bound
 use Rattle.tablet.proofs.asbru_check.Reads as asbru-check
 use Rattle.tablet.proofs.asbru_to_version_1.Reads as asbru-to-version-1
 use Rattle.tablet.proofs.asbru_to_version_2.Reads as asbru-to-version-2
@@ -50,6 +53,7 @@ use Rattle.tablet.specs.Packed.{
   packed,
   packedRefusal,
   packedOutcome,
+  packedBound,
   packedVerdict,
   Told,
   packedJudgement,
@@ -68,6 +72,9 @@ asbru-step-once κs a z z′ e e′ h h′ = (one-answer (h .0) (h′ .0), one-a
 
 pub asbru-rest-once : OneAnswerLeaving asbru-rest.Post (λ e. now (e .1 .1 .0))
 asbru-rest-once κs a z z′ e e′ h h′ = (one-answer (h .0) (h′ .0), one-answer (h .1) (h′ .1))
+
+pub asbru-bound-once : OneAnswer asbru-bound.Post
+asbru-bound-once = record { once = λ κs a z z′ e e′ h h′. one-answer (h .0) (h′ .0) }
 
 pub asbru-to-version-2-once : OneAnswerLeaving asbru-to-version-2.Post (λ e. now (e .1 .0))
 asbru-to-version-2-once κs a z z′ e e′ h h′ = (one-answer (h .0) (h′ .0), one-answer (h .1) (h′ .1))
@@ -149,3 +156,9 @@ same-refusal why why′ fits fits′ e =
 pub no-refusal :
     (step plan : ℕ) (why : Refusal) → packed 0 step plan ≡ packedRefusal why → ⊥
 no-refusal step plan why e = omega (arith, refusal-number why .0, refusal-number why .1)
+
+-- so an answer with number 0 and plan 0 is a figure
+pub figure-found : (b : Bound) (k : ℕ) → packedBound b ≡ packed 0 k 0 → b ≡ bound.Within k
+figure-found (bound.Within j) k e = ap bound.Within (omega (arith, e))
+figure-found bound.Unknown k e = absurd (omega (arith, e))
+figure-found (bound.Refused why) k e = absurd (no-refusal k 0 why (sym e))

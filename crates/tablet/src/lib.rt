@@ -1,13 +1,16 @@
-// The step, the run to rest, the checker, the moves of tables and what makes a word's pattern bits, for a tablet's host program written in
-// C, on numbers and slices; include/asbru.h declares them. An answer is one 64-bit number, which `Packed` in specs/ lays out. Nothing is
-// allocated. Assumes nothing.
+// The step, the run to rest, the figure for it, the checker, the moves of tables and what makes a word's pattern bits, for a tablet's host
+// program written in C, on numbers and slices; include/asbru.h declares them. An answer is one 64-bit number, which `Packed` in specs/ lays
+// out. Nothing is allocated. Assumes nothing.
+ghost use Prim.Native.Nat.{ℕ};
 ghost use mathlib.Core.Path.{_≡_};
 ghost use mathlib.Core.Bool.{cond};
 ghost use Rattle.rules.specs.Words.{withBits, withPattern};
 ghost use Rattle.rules.specs.Answers.{stepAnswer, stepStates, runAnswer, runStates};
+ghost use Rattle.demands.specs.Bound.{RestsWithin, boundAnswer};
 ghost use Rattle.versions.specs.Versions.{checkTo1, checkTo2, inVersion1, inVersion2, moveAnswer, moveOutput};
-ghost use Rattle.tablet.specs.Packed.{packed, packedRefusal, packedOutcome, packedRest, packedVerdict, Told};
+ghost use Rattle.tablet.specs.Packed.{packed, packedRefusal, packedOutcome, packedRest, packedBound, packedVerdict, Told};
 ghost use Rattle.tablet.specs.Packed.{packedJudgement, PatternTold, NormalTold, patternOf, withAnswer};
+use rules::Bound;
 use rules::Condition;
 use rules::Outcome;
 use rules::Pattern;
@@ -39,6 +42,15 @@ pub extern "C" fn asbru_rest(
     ensures left { λ _. ⌜ now (states .exit) ≡ runStates rule (now (table .entry)) (now (states .entry)) (now (words .entry)) budget ⌝ }
 {
     pack_rest(step::rest(rule, table, states, words, budget), budget)
+}
+
+// The most steps that a run under these words takes to rest, by either rule and from all states that pass, where that is known.
+#[no_mangle]
+pub extern "C" fn asbru_bound(table: &[u8], words: &[u8]) -> u64
+    ensures answer { λ r. ⌜ r ≡ packedBound (boundAnswer (now (table .entry)) (now (words .entry))) ⌝ }
+    ensures promise { λ r. ⌜ ((k : ℕ) → r ≡ packed 0 k 0 → RestsWithin (now (table .entry)) (now (words .entry)) k) ⌝ }
+{
+    pack_bound(bound::bound(table, words))
 }
 
 // Whether a record can come from the rules under a table, by the rule named.
@@ -170,6 +182,17 @@ fn pack_rest(rest: Rest, budget: u16) -> u64
         Rest::Rested(k) => pack(0, k, 0),
         Rest::Moving => pack(0, budget, 1),
         Rest::Refused(why) => pack_refusal(why),
+    }
+}
+
+// What a question for the most steps to rest answers.
+fn pack_bound(bound: Bound) -> u64
+    ensures { λ r. ⌜ r ≡ packedBound bound ⌝ }
+{
+    match bound {
+        Bound::Within(k) => pack(0, k, 0),
+        Bound::Unknown => pack(0, 0, 1),
+        Bound::Refused(why) => pack_refusal(why),
     }
 }
 

@@ -3,6 +3,7 @@
 //   subtree TABLE STATES PLAN             asks for a sub tree
 //   move RULE TABLE STATES WORDS          takes one step, and shows the states that it leaves
 //   rest RULE TABLE STATES WORDS BUDGET   steps until rest, and shows the states that it leaves
+//   bound TABLE WORDS                     asks for the most steps to rest
 //   judge RULE TABLE RECORD               checks a record
 //   up TABLE OUTPUT                       moves a table to version 2, and shows the output that it leaves
 //   down TABLE OUTPUT                     moves a table to version 1, likewise
@@ -15,6 +16,7 @@ ghost use lib.ListN.{length};
 ghost use Rattle.io.specs.Counts.{Counts};
 use libc::STDIN_FILENO;
 use libc::STDOUT_FILENO;
+use rules::Bound;
 use rules::Outcome;
 use rules::Refusal;
 use rules::Rest;
@@ -72,6 +74,7 @@ fn run_line(line: &[u8]) {
         b's' => run_sub_tree(line),
         b'm' => run_call(line, false),
         b'r' => run_call(line, true),
+        b'b' => run_bound(line),
         b'j' => run_judge(line),
         b'u' => run_move(line, true),
         b'd' => run_move(line, false),
@@ -240,6 +243,15 @@ fn call(rule: u32, table: &[u8], states: &mut [u8], words: &[u8], budget: u16, r
     print_left(states);
 }
 
+fn run_bound(line: &[u8]) {
+    let mut space = io::buffer();
+    let n = bytes_of(field(line, 1), &mut space);
+    let mut words = io::buffer();
+    let k = bytes_of(field(line, 2), &mut words);
+    print_bound(bound::bound(&space[..n], &words[..k]));
+    end_line();
+}
+
 fn run_judge(line: &[u8]) {
     let mut space = io::buffer();
     let n = bytes_of(field(line, 2), &mut space);
@@ -327,6 +339,17 @@ fn print_rest(r: Rest) {
         }
         Rest::Moving => print(b"moving"),
         Rest::Refused(why) => print_refusal(why),
+    }
+}
+
+fn print_bound(b: Bound) {
+    match b {
+        Bound::Within(k) => {
+            print(b"within");
+            print_number(k as u64);
+        }
+        Bound::Unknown => print(b"unknown"),
+        Bound::Refused(why) => print_refusal(why),
     }
 }
 
