@@ -279,7 +279,7 @@ fn table_of(dice: &mut Dice, parents: &[usize], style: &Style) -> Vec<u8> {
 }
 
 /// A table of version 1, or one of version 2 with the same plans.
-fn in_either_version(dice: &mut Dice, mut table: Vec<u8>, manners: &[Manner]) -> Vec<u8> {
+pub fn in_either_version(dice: &mut Dice, mut table: Vec<u8>, manners: &[Manner]) -> Vec<u8> {
     // some tables are of version 2 from the start: in all it is half of them
     if dice.percent(42) {
         formula_cases::add_formulas(dice, &mut table, manners);
@@ -365,9 +365,20 @@ pub fn good_table_of_version_1(dice: &mut Dice, n: usize) -> Vec<u8> {
 
 /// One child a plan.
 pub fn chain_of_version_1(dice: &mut Dice, n: usize) -> Vec<u8> {
-    let parents: Vec<usize> = (0..n).map(|p| p.checked_sub(1).unwrap_or(reference::NO_PARENT)).collect();
     let style = any_style(dice);
-    table_of_version_1(dice, &parents, &style)
+    table_of_version_1(dice, &parents_in_a_chain(n), &style)
+}
+
+fn parents_in_a_chain(n: usize) -> Vec<usize> {
+    (0..n).map(|p| p.checked_sub(1).unwrap_or(reference::NO_PARENT)).collect()
+}
+
+/// A tree that runs down to its leaves and completes all the way up: a chain, or of any shape.
+#[allow(dead_code)] // For bounds.rs, which wants long runs of all sizes.
+pub fn gentle_table_of_version_1(dice: &mut Dice, n: usize) -> Vec<u8> {
+    let shape = dice.one_of(&SHAPES);
+    let parents = if dice.percent(50) { parents_in_a_chain(n) } else { parents(dice, n, shape, reference::MOST_CHILDREN) };
+    table_of_version_1(dice, &parents, &GENTLE)
 }
 
 /// A small table of version 2 with nodes of all kinds, which are broken somewhere.
@@ -438,12 +449,19 @@ fn plans_of_losses(dice: &mut Dice, n: usize, shape: Shape) -> Vec<u8> {
     table
 }
 
+/// The same of any shape.
+#[allow(dead_code)] // For bounds.rs.
+pub fn losing_table_of_version_1(dice: &mut Dice, n: usize) -> Vec<u8> {
+    let shape = dice.one_of(&SHAPES);
+    plans_of_losses(dice, n, shape)
+}
+
 /// Whether the two rules could differ on a plan: it retries and waits for some of its children.
 pub fn may_part_the_rules(plan: &Plan) -> bool {
     plan.retries_aborted() && plan.wait_for != Formula::AtLeast(0)
 }
 
-fn read_good_table(table: &[u8]) -> Vec<Plan> {
+pub fn read_good_table(table: &[u8]) -> Vec<Plan> {
     reference::read_table(table).unwrap_or_else(|answer| panic!("a good table is refused: {answer:x}"))
 }
 
@@ -477,6 +495,13 @@ pub fn spoil_table(dice: &mut Dice, table: &mut Vec<u8>) {
         30 => *table = table_of_257_plans(dice),
         31..=64 if formula_cases::is_of_version_2(table) => spoil_formulas(dice, table),
         _ => spoil_entry(dice, table),
+    }
+}
+
+/// The same in one place or in several.
+pub fn spoil_in_places(dice: &mut Dice, table: &mut Vec<u8>) {
+    for _ in 0..dice.one_of(&[1, 1, 1, 2, 3]) {
+        spoil_table(dice, table);
     }
 }
 
@@ -583,6 +608,12 @@ const INTERRUPTED: usize = 2;
 const ABORTING: usize = 3;
 const LOSING: usize = 8;
 
+/// One in which many plans are aborted.
+#[allow(dead_code)] // For bounds.rs.
+pub fn aborting_mood() -> Mood {
+    mood_of(ABORTING)
+}
+
 fn mood_of(number: usize) -> Mood {
     let (satisfied, satisfiable, triggered, overridden) = match number {
         // All goes well.
@@ -641,11 +672,11 @@ pub fn good_words(dice: &mut Dice, plans: &[Plan], mood: &Mood) -> Vec<u32> {
     plans.iter().map(|plan| good_word(dice, plan, mood)).collect()
 }
 
-fn bytes_of_words(words: &[u32]) -> Vec<u8> {
+pub fn bytes_of_words(words: &[u32]) -> Vec<u8> {
     words.iter().flat_map(|word| word.to_le_bytes()).collect()
 }
 
-fn spoil_words(dice: &mut Dice, words: &mut Vec<u8>, plans: &[Plan]) {
+pub fn spoil_words(dice: &mut Dice, words: &mut Vec<u8>, plans: &[Plan]) {
     match dice.below(12) {
         0 => spoil_slice_length(dice, words),
         1 => words.iter_mut().for_each(|byte| *byte = dice.byte()),
@@ -1237,6 +1268,10 @@ pub fn check_of(rule: u32, table: Vec<u8>, record: Vec<u8>) -> Call {
     Call { kind: Kind::Check, rule, table, states: vec![], words: record, budget: 0, continues: None }
 }
 
+pub fn rest_of(rule: u32, table: Vec<u8>, states: Vec<u8>, words: Vec<u8>, budget: u16) -> Call {
+    Call { kind: Kind::Rest, rule, table, states, words, budget, continues: None }
+}
+
 /// A run that mostly goes round in a circle: leaves that are aborted and retried again and again, and
 /// above them only plans that cannot complete. Where these need all their children, it is so by rule 2 only.
 fn restless_call(dice: &mut Dice) -> Call {
@@ -1268,7 +1303,7 @@ fn restless_call(dice: &mut Dice) -> Call {
     let budget = if dice.percent(50) { 65_535 } else { dice.between(0, 2000) as u16 };
     let states = vec![reference::INACTIVE; n];
     let rule = any_rule(dice).0;
-    Call { kind: Kind::Rest, rule, table, states, words: bytes_of_words(&words), budget, continues: None }
+    rest_of(rule, table, states, bytes_of_words(&words), budget)
 }
 
 /// A step of plans with bodies for two that are Activated, over children in states that these bodies tell apart; at times all are told to
@@ -1339,7 +1374,7 @@ fn long_call(dice: &mut Dice) -> Call {
     let table = table_of(dice, &parents, &GENTLE);
     let budget = dice.one_of(&[65_535, 65_535, 1000, 6 * n, 4 * n]) as u16;
     let (rule, _) = any_rule(dice);
-    Call { kind: Kind::Rest, rule, table, states: vec![0; n], words: vec![0; 4 * n], budget, continues: None }
+    rest_of(rule, table, vec![0; n], vec![0; 4 * n], budget)
 }
 
 /// A new table, all plans Inactive or further on; on big tables mostly further on, for it would take

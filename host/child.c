@@ -1,10 +1,11 @@
 /*
- * The library behind a pipe: reads calls from standard input, makes them, and writes what they answer and leave, for host/differ.rs to
- * compare. With the argument `plain` the calls go to host/plain.c instead. All numbers are little-endian.
+ * The library behind a pipe: reads calls from standard input, makes them, and writes what they answer and leave, for host/differ.rs and
+ * host/bounds.rs to compare. With the argument `plain` the calls go to host/plain.c instead. All numbers are little-endian.
  *
- *   call:   kind (1 byte: 1 step, 2 rest, 3 check, 4 to version 1, 5 to version 2), the rule (4 bytes), the lengths of table, states and
- *           words (4 bytes each; of a check the words are the record, and the states are empty; of a move the states are what stands in
- *           the output, and the words are empty), the budget (2 bytes), then the bytes of table, states and words
+ *   call:   kind (1 byte: 1 step, 2 rest, 3 check, 4 to version 1, 5 to version 2, 6 bound), the rule (4 bytes), the lengths of table,
+ *           states and words (4 bytes each; of a check the words are the record, and the states are empty; of a move the states are what
+ *           stands in the output, and the words are empty; of a bound the states are), the budget (2 bytes), then the bytes of table,
+ *           states and words
  *   answer: the answer (8 bytes), the states, and 1 if the bytes around all buffers are as they were, and those of table and words
  */
 #include "asbru.h"
@@ -17,11 +18,12 @@ typedef struct {
     uint64_t (*check)(uint32_t, const uint8_t *, size_t, const uint8_t *, size_t);
     uint64_t (*to_version_1)(const uint8_t *, size_t, uint8_t *, size_t);
     uint64_t (*to_version_2)(const uint8_t *, size_t, uint8_t *, size_t);
+    uint64_t (*bound)(const uint8_t *, size_t, const uint8_t *, size_t);
 } Calls;
 
 int main(int argc, char **argv) {
-    static const Calls library = {asbru_step, asbru_rest, asbru_check, asbru_to_version_1, asbru_to_version_2};
-    static const Calls plain = {plain_step, plain_rest, plain_check, plain_to_version_1, plain_to_version_2};
+    static const Calls library = {asbru_step, asbru_rest, asbru_check, asbru_to_version_1, asbru_to_version_2, asbru_bound};
+    static const Calls plain = {plain_step, plain_rest, plain_check, plain_to_version_1, plain_to_version_2, plain_bound};
     const Calls *calls = argc > 1 && strcmp(argv[1], "plain") == 0 ? &plain : &library;
     for (int kind; (kind = getchar()) != EOF;) {
         uint32_t rule = (uint32_t)number(4);
@@ -47,6 +49,9 @@ int main(int argc, char **argv) {
             break;
         case 5:
             answer = calls->to_version_2(table.bytes, table.length, output, states.length);
+            break;
+        case 6:
+            answer = calls->bound(table.bytes, table.length, words.bytes, words.length);
             break;
         default:
             need(0, "no such call");

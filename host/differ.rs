@@ -3,22 +3,17 @@
 //!     differ CHILD [ARGS..] --seed S --calls N [--reach-from N] [--patience SECONDS]
 //!
 //! starts CHILD with ARGS, writes requests to its standard input and reads answers from its
-//! standard output, as talk.rs tells. All numbers are little-endian.
+//! standard output, as talk.rs and requests.rs tell.
 //!
-//!     request: u8 kind (1 step, 2 rest, 3 check, 4 to version 1, 5 to version 2); u32 rule (0 for the last two);
-//!              u32 length of the table, u32 of the states (0 for a check; for the last two: of the output), u32 of
-//!              the words (for a check: of the record; 0 for the last two); u16 budget (0 unless rest); the bytes of
-//!              the table, of the states or of what stands in the output, of the words or record
-//!     answer:  u64; the states or the output, as many bytes as were sent; u8, 1 when the guard bytes around all
-//!              buffers of the child are intact
-//!
-//! Status 0: N calls of the first three and then `PER_MOVE` times fewer of the others, which move tables, were made
-//! without a difference and without a move of a plan that the rules do not allow, and, from `REACH_FROM` calls on or
-//! as many as `--reach-from` says, they reached every answer number of the library's, every move of a plan that the
-//! rules allow, and all that turns.rs wants of the bodies 5 to 8, picks.rs of the choices in any order, losses.rs of
-//! the two rules, formulas.rs of the tables of version 2 and move_reached.rs of the moves of tables. Status 1:
-//! anything else.
+//! Status 0: N calls of step, rest and check, then `PER_MOVE` times fewer that move tables and `PER_BOUND` times fewer
+//! that ask how long a run can go on were made without a difference and without a move of a plan that the rules do not
+//! allow, and, from `REACH_FROM` calls on or as many as `--reach-from` says, they reached every answer number of the
+//! library's, every move of a plan that the rules allow, and all that turns.rs wants of the bodies 5 to 8, picks.rs of
+//! the choices in any order, losses.rs of the two rules, formulas.rs of the tables of version 2, move_reached.rs of the
+//! moves of tables and bound_reached.rs of the bounds. Status 1: anything else.
 
+mod bound_cases;
+mod bound_reached;
 mod cases;
 mod dice;
 mod formula_cases;
@@ -28,6 +23,7 @@ mod move_cases;
 mod move_reached;
 mod picks;
 mod reference;
+mod requests;
 #[cfg(test)]
 mod same_steps;
 #[cfg(test)]
@@ -40,9 +36,10 @@ use cases::{Call, Kind, Maker};
 use dice::{hex, Dice};
 use move_cases::Move;
 use reference::Rule;
+use requests::{kind_number, request};
 use std::process::ExitCode;
 use talk::{number_of, Options};
-use tally::Lines;
+use tally::{class, Lines, Sizes};
 
 type Asked = talk::Asked<Call>;
 
@@ -60,11 +57,14 @@ fn main() -> ExitCode {
 const REACH_FROM: u64 = 200_000;
 /// For so many calls of step, rest and check a table is moved once.
 const PER_MOVE: u64 = 4;
+/// For so many it is asked once how long a run can go on.
+const PER_BOUND: u64 = 4;
 
 fn run() -> Result<(), String> {
-    let options = Options::from_arguments("differ", REACH_FROM)?;
+    let options = Options::from_arguments("differ", "calls", REACH_FROM)?;
     compare_calls(&options)?;
-    compare_moves(&options.one_in(PER_MOVE))
+    compare_moves(&options.one_in(PER_MOVE))?;
+    compare_bounds(&options.one_in(PER_BOUND))
 }
 
 /// Step, rest and check.
@@ -87,67 +87,38 @@ fn compare_calls(options: &Options) -> Result<(), String> {
     Ok(())
 }
 
-/// The moves of tables, from dice of their own: the calls above stay as they are, whatever is moved here.
+/// The moves of tables.
 fn compare_moves(options: &Options) -> Result<(), String> {
-    let mut dice = Dice::new(options.seed);
     let mut reached = Lines::default();
-    let next = || {
-        let call = move_cases::next_move(&mut dice);
+    let next = |dice: &mut Dice| {
+        let call = move_cases::next_move(dice);
         let (answer, output) = call.ask_reference();
         (call, answer, output)
     };
-    talk::compare(options, next, |asked| move_reached::count(&mut reached, &asked.call, asked.answer))?;
-    let wanted = move_reached::wanted();
-    reached.print("moves of tables", &wanted);
-    reached.are_possible(&wanted)?;
-    if options.asks_for_all() {
-        reached.are_all(&wanted)?;
-    }
-    Ok(())
+    compare_apart(options, next, |asked| move_reached::count(&mut reached, &asked.call, asked.answer))?;
+    reached.are_right("moves of tables", &move_reached::wanted(), || options.asks_for_all())
 }
 
-// ------------------------------------------------------------------------------------------------
-// What is sent
-// ------------------------------------------------------------------------------------------------
-
-/// The parts are the table; the states or what stands in the output; the words or the record.
-fn request(kind: u8, rule: u32, parts: [&[u8]; 3], budget: u16) -> Vec<u8> {
-    let mut bytes = vec![kind];
-    bytes.extend(rule.to_le_bytes());
-    for part in parts {
-        bytes.extend((part.len() as u32).to_le_bytes());
-    }
-    bytes.extend(budget.to_le_bytes());
-    bytes.extend(parts.concat());
-    bytes
+/// How long a run can go on.
+fn compare_bounds(options: &Options) -> Result<(), String> {
+    let mut reached = Lines::default();
+    let next = |dice: &mut Dice| {
+        let question = bound_cases::next_question(dice);
+        let answer = reference::bound(&question.table, &question.words);
+        (question, answer, vec![])
+    };
+    compare_apart(options, next, |asked| bound_reached::count(&mut reached, &asked.call, asked.answer))?;
+    reached.are_right("bounds", &bound_reached::wanted(), || options.asks_for_all())
 }
 
-fn kind_number(kind: Kind) -> u8 {
-    match kind {
-        Kind::Step => 1,
-        Kind::Rest => 2,
-        Kind::Check => 3,
-    }
-}
-
-impl talk::Call for Call {
-    fn request(&self) -> Vec<u8> {
-        request(kind_number(self.kind), self.rule, [&self.table, &self.states, &self.words], self.budget)
-    }
-
-    fn tell(&self) -> String {
-        format!(
-            "kind {} ({:?})\nrule {}\ntable {}\nstates {}\n{} {}\nbudget {}",
-            kind_number(self.kind),
-            self.kind,
-            self.rule,
-            hex(&self.table),
-            hex(&self.states),
-            if self.kind == Kind::Check { "record" } else { "words" },
-            hex(&self.words),
-            self.budget,
-        )
-    }
+/// From dice of their own: the calls of other parts stay as they are, whatever is asked here.
+fn compare_apart<C: talk::Call>(
+    options: &Options,
+    next: impl Fn(&mut Dice) -> (C, u64, Vec<u8>),
+    count: impl FnMut(&talk::Asked<C>),
+) -> Result<(), String> {
+    let mut dice = Dice::new(options.seed);
+    talk::compare(options, || next(&mut dice), count)
 }
 
 impl talk::Call for Move {
@@ -232,8 +203,6 @@ struct Told {
     refused_nodes: Lines,
 }
 
-/// Classes of sizes: the name and the largest number in it.
-type Sizes<const N: usize> = [(&'static str, u64); N];
 const BUDGET_SIZES: Sizes<5> =
     [("0", 0), ("1 to 16", 16), ("17 to 300", 300), ("301 to 65,534", 65_534), ("65,535", 65_535)];
 const STEP_SIZES: Sizes<6> =
@@ -247,10 +216,6 @@ const TREE_SIZES: Sizes<7> = [
     ("129 to 255", 255),
     ("256", 256),
 ];
-
-fn class(sizes: &[(&str, u64)], size: u64) -> usize {
-    sizes.iter().position(|&(_, largest)| size <= largest).expect("no size is above the largest")
-}
 
 impl Counts {
     fn add(&mut self, asked: &Asked) {
@@ -436,7 +401,7 @@ impl Told {
                 return;
             }
         };
-        let version = if formula_cases::is_of_version_2(&call.table) { 2 } else { 1 };
+        let version = formula_cases::version_of(&call.table);
         if version == 2 {
             formulas::count_table(&mut self.tables, &call.table, &plans);
         }

@@ -157,6 +157,15 @@ pub fn is_of_version_2(table: &[u8]) -> bool {
     table.get(3..5) == Some(&[2, 0])
 }
 
+/// The version of a table that passes check 3.
+pub fn version_of(table: &[u8]) -> u8 {
+    if is_of_version_2(table) {
+        2
+    } else {
+        1
+    }
+}
+
 /// Makes a table of version 1 one of version 2: byte 7 of its plans with children is a node's number then. Few have all the nodes that a
 /// table can have.
 pub fn add_formulas(dice: &mut Dice, table: &mut Vec<u8>, manners: &[Manner]) {

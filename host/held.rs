@@ -20,6 +20,7 @@ mod held_reference;
 #[cfg(test)]
 mod held_test;
 mod talk;
+#[allow(dead_code)]
 mod tally;
 
 use dice::{hex, Dice};
@@ -42,7 +43,7 @@ fn main() -> ExitCode {
 const REACH_FROM: u64 = 100_000;
 
 fn run() -> Result<(), String> {
-    let options = Options::from_arguments("held", REACH_FROM)?;
+    let options = Options::from_arguments("held", "calls", REACH_FROM)?;
     let mut dice = Dice::new(options.seed);
     let mut reached = Reached::default();
     let next = || {

@@ -49,7 +49,7 @@ pub fn next_move(dice: &mut Dice) -> Move {
     let to = dice.one_of(&[To::Version1, To::Version2]);
     let mut table = good_table(dice, to);
     match dice.below(100) {
-        0..=34 => spoil(dice, &mut table),
+        0..=34 => cases::spoil_in_places(dice, &mut table),
         35..=39 => formula_cases::spoil_for_9(dice, &mut table),
         _ => {}
     }
@@ -111,13 +111,6 @@ pub fn of_formulas(dice: &mut Dice) -> Vec<u8> {
     let mut table = of_version_1(dice);
     formula_cases::add_formulas(dice, &mut table, &[Manner::Any]);
     table
-}
-
-/// Spoils a table in one place or in several.
-pub fn spoil(dice: &mut Dice, table: &mut Vec<u8>) {
-    for _ in 0..dice.one_of(&[1, 1, 1, 2, 3]) {
-        cases::spoil_table(dice, table);
-    }
 }
 
 // ------------------------------------------------------------------------------------------------

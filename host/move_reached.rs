@@ -3,7 +3,7 @@
 use crate::formula_cases;
 use crate::move_cases::{Move, To};
 use crate::reference::{self, Node, Plan};
-use crate::tally::Lines;
+use crate::tally::{chosen, Lines};
 
 const VERSION: u64 = 3;
 const FORMULA: u64 = 22;
@@ -102,11 +102,6 @@ pub fn count(lines: &mut Lines, call: &Move, answer: u64) {
         _ => vec![],
     });
     met.into_iter().for_each(|line| lines.count(in_direction(call.to, line)));
-}
-
-/// The lines that are so.
-fn chosen(lines: &[(bool, &str)]) -> Vec<String> {
-    lines.iter().filter(|&(is_so, _)| *is_so).map(|(_, line)| line.to_string()).collect()
 }
 
 fn done(call: &Move, written: usize) -> Vec<String> {

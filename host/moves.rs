@@ -218,7 +218,7 @@ fn likely_refused(dice: &mut Dice, number: u64, turn: usize) -> Vec<u8> {
         (16, _) => input.resize(MOST_BYTES + 1 + 1_000 * turn, 0),
         (5, 0) => input.resize(MOST_BYTES, 0),
         (23, _) => {}
-        _ => move_cases::spoil(dice, &mut input),
+        _ => cases::spoil_in_places(dice, &mut input),
     }
     input
 }

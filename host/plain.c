@@ -307,13 +307,18 @@ static inline int all_ended(const Plan *e, uint64_t counts) {
     return !((e->body == ON_ABORT || e->body == ON_ABORT_OR_SUSPEND) && COUNT(counts, ABORTED_ONES));
 }
 
+/* The conditions of a plan that hold under its word. */
+static inline unsigned holding(const Plan *e, uint32_t x) {
+    unsigned holds = x & (~(unsigned)e->manual | x >> 8);
+    holds |= e->overridable & x >> 14;
+    return (holds & e->present) | (ABSENT_HOLD & ~(unsigned)e->present);
+}
+
 /* The new state of plan p in execution or under a parent in execution. */
 static inline unsigned move_on(const Plan *plans, const Survey *s, const uint8_t *words, unsigned p, unsigned old, int held, int orders) {
     const Plan *e = plans + p;
     uint32_t x = word_of(words, p);
-    unsigned holds = x & (~(unsigned)e->manual | x >> 8);
-    holds |= e->overridable & x >> 14;
-    holds = (holds & e->present) | (ABSENT_HOLD & ~(unsigned)e->present);
+    unsigned holds = holding(e, x);
     switch (old) {
     case INACTIVE: {
         if (!orders) return INACTIVE;
@@ -400,6 +405,16 @@ static uint64_t check_states(const Plan *plans, unsigned n, const uint8_t *state
     return 0;
 }
 
+/* Check 12 of words that are held. */
+static uint64_t check_words(const Plan *plans, unsigned n, const uint8_t *words) {
+    for (unsigned p = 0; p < n; p++) {
+        uint32_t x = word_of(words, p), pick = x >> 24 & 63;
+        int allowed = plans[p].body == ANY_ORDER ? pick < plans[p].children : pick == 0;
+        if (stray(plans + p, x >> 20 & 0xC0F) || !allowed || contradicts(x)) return answer(12, 0, p);
+    }
+    return 0;
+}
+
 /* Checks 17, 1 to 8, 22 and 9 to 12. */
 static uint64_t check_call(uint32_t rule, const uint8_t *t, size_t t_length, const uint8_t *states, size_t s_length,
                            const uint8_t *words, size_t w_length, Plan *plans, Formulas *f) {
@@ -408,13 +423,7 @@ static uint64_t check_call(uint32_t rule, const uint8_t *t, size_t t_length, con
     unsigned n = u16(t + 5);
     if (s_length != n || w_length != 4 * n) return 10;
     bad = check_states(plans, n, states);
-    if (bad) return bad;
-    for (unsigned p = 0; p < n; p++) {
-        uint32_t x = word_of(words, p), pick = x >> 24 & 63;
-        int allowed = plans[p].body == ANY_ORDER ? pick < plans[p].children : pick == 0;
-        if (stray(plans + p, x >> 20 & 0xC0F) || !allowed || contradicts(x)) return answer(12, 0, p);
-    }
-    return 0;
+    return bad ? bad : check_words(plans, n, words);
 }
 
 static void look_ahead(const Plan *plans, unsigned n, const Formulas *f, const uint8_t *states, const uint8_t *words, uint8_t *now) {
@@ -479,10 +488,31 @@ uint64_t plain_check(uint32_t rule, const uint8_t *table, size_t table_length, c
     return answer(0, (unsigned)steps, 0);
 }
 
-/* Checks 1 to 8, 22 and 9 of a table that has to be of this version. No rule reads it, so that any will do. */
+/* Checks 1 to 8, 22 and 9 for a call by no rule: any will do. */
+static uint64_t read_alone(const uint8_t *t, size_t length, Plan *plans, Formulas *f) {
+    return read_table(1, t, length, plans, f);
+}
+
+uint64_t plain_bound(const uint8_t *table, size_t table_length, const uint8_t *words, size_t words_length) {
+    Plan plans[MOST];
+    Formulas f;
+    uint64_t bad = read_alone(table, table_length, plans, &f);
+    if (bad) return bad;
+    unsigned n = u16(table + 5);
+    if (words_length != 4 * n) return 10;
+    bad = check_words(plans, n, words);
+    if (bad) return bad;
+    for (unsigned p = 0; p < n; p++) {
+        int both = !(~holding(plans + p, word_of(words, p)) & (SUSPEND | REACTIVATE));
+        if (both || plans[p].flags & RETRY) return answer(0, 0, 1);
+    }
+    return answer(0, 6 * n, 0);
+}
+
+/* The same checks of a table that has to be of this version. */
 static uint64_t read_version(unsigned version, const uint8_t *t, size_t length, Plan *plans, Formulas *f) {
     if (length >= 8 && !memcmp(t, "APT", 3) && u16(t + 3) != version) return 3;
-    return read_table(1, t, length, plans, f);
+    return read_alone(t, length, plans, f);
 }
 
 uint64_t plain_to_version_2(const uint8_t *table, size_t table_length, uint8_t *output, size_t output_length) {

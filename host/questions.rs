@@ -13,6 +13,7 @@ mod held_cases;
 #[allow(dead_code)]
 mod held_reference;
 mod program;
+#[allow(dead_code)]
 mod tally;
 
 use dice::Dice;

@@ -1,7 +1,7 @@
 //! A slow and plain implementation of document 01, "Requirements and rules for the build", and of
-//! requests (i), (ii), (v), (vi) and (vii) of document 02, "Bodies for the bad turn", "A retried step should
-//! not sink its parent", "Wait for this or both of those", "Moving the library of tables" and "Do the
-//! mandatory one first".
+//! requests (i), (ii), (v), (vi), (vii) and (viii) of document 02, "Bodies for the bad turn", "A retried step
+//! should not sink its parent", "Wait for this or both of those", "Moving the library of tables", "Do the
+//! mandatory one first" and "How long can it go on moving?".
 //!
 //! It is written to be read beside the documents: in the order of document 01, in their words, one
 //! small function for each rule. A sentence in quotation marks is document 01's own; behind "02 (i):",
@@ -832,6 +832,29 @@ fn run_to_rest_jumping(start: &Before, budget: u16) -> Run {
 }
 
 // ------------------------------------------------------------------------------------------------
+// How long a run can go on
+// ------------------------------------------------------------------------------------------------
+
+/// 02 (viii): "if no plan has retry-aborted". The flag counts, whether or not there is anybody to retry.
+fn nobody_retries(plans: &[Plan]) -> bool {
+    !plans.iter().any(Plan::retries_aborted)
+}
+
+/// 02 (viii): "and no plan has suspend and reactivate both holding". Each plan is asked by itself.
+fn nobody_holds_both(plans: &[Plan], words: &[u32]) -> bool {
+    !plans.iter().zip(words).any(|(plan, &word)| holds_both(plan, word))
+}
+
+pub fn holds_both(plan: &Plan, word: u32) -> bool {
+    condition_holds(plan, word, SUSPEND) && condition_holds(plan, word, REACTIVATE)
+}
+
+/// 02 (viii): "the run rests after at most 6 times the number of plans"
+fn most_steps(plans: &[Plan]) -> usize {
+    6 * plans.len()
+}
+
+// ------------------------------------------------------------------------------------------------
 // Record
 // ------------------------------------------------------------------------------------------------
 
@@ -925,6 +948,8 @@ pub fn answer(number: u64, plan: usize, step: usize) -> Answer {
 pub const DONE: u64 = 0;
 /// Where the run answers "still moving", this stands in the plan's place.
 pub const STILL_MOVING: usize = 1;
+/// And where no figure is known of how long a run can go on, this.
+pub const NO_FIGURE: usize = 1;
 
 /// A check gives its number, or lets the next one look.
 type Check = Result<(), Answer>;
@@ -1133,7 +1158,7 @@ pub fn named_children(plans: &[Plan], p: usize) -> usize {
 
 /// "12: word with an unused bit, a wrong pick ..., or filter or setup satisfied but not satisfiable,
 /// present or absent"
-fn word_is_wrong(plan: &Plan, word: u32) -> bool {
+pub fn word_is_wrong(plan: &Plan, word: u32) -> bool {
     has_unused_bit(word)
         || !may_be_picked(plan, pick_of(word))
         || is_satisfied_but_not_satisfiable(word)
@@ -1165,9 +1190,19 @@ fn read_call(plans: &[Plan], states: &[u8], words: &[u8]) -> Result<Vec<u32>, An
     refuse_if(states.len() != n || words.len() != 4 * n, 10)?;
     // "11: states handed in break a rule"
     refuse_lowest_plan(n, 11, 0, |p| breaks_a_rule(plans, states, p))?;
+    read_held_words(plans, words)
+}
+
+/// The checks of a question how long a run can go on, which is handed no states: 10 of the words, and 12.
+fn read_question(plans: &[Plan], words: &[u8]) -> Result<Vec<u32>, Answer> {
+    refuse_if(words.len() != 4 * plans.len(), 10)?;
+    read_held_words(plans, words)
+}
+
+/// The check 12 of words, one for each plan.
+fn read_held_words(plans: &[Plan], words: &[u8]) -> Result<Vec<u32>, Answer> {
     let words = read_words(words);
-    // 12
-    refuse_lowest_plan(n, 12, 0, |p| word_is_wrong(&plans[p], words[p]))?;
+    refuse_lowest_plan(plans.len(), 12, 0, |p| word_is_wrong(&plans[p], words[p]))?;
     Ok(words)
 }
 
@@ -1311,6 +1346,21 @@ fn try_rest(
             states.copy_from_slice(&after_budget);
             Ok(answer(DONE, STILL_MOVING, usize::from(budget)))
         }
+    }
+}
+
+/// How long a run under these words can go on, by either rule and from whatever states: the figure is the answer's step.
+pub fn bound(table: &[u8], words: &[u8]) -> Answer {
+    try_bound(table, words).unwrap_or_else(|refusal| refusal)
+}
+
+fn try_bound(table: &[u8], words: &[u8]) -> Result<Answer, Answer> {
+    let plans = read_table(table)?;
+    let words = read_question(&plans, words)?;
+    if nobody_retries(&plans) && nobody_holds_both(&plans, &words) {
+        Ok(answer(DONE, 0, most_steps(&plans)))
+    } else {
+        Ok(answer(DONE, NO_FIGURE, 0))
     }
 }
 

@@ -38,7 +38,7 @@ fn place(p: usize, at: usize) -> usize {
 }
 
 fn bytes(words: [u32; 3]) -> Vec<u8> {
-    words.iter().flat_map(|word| word.to_le_bytes()).collect()
+    cases::bytes_of_words(&words)
 }
 
 fn expect_step_by(rule: u32, table: &[u8], from: [u8; 3], words: [u32; 3], to: [u8; 3]) {
@@ -1412,4 +1412,176 @@ fn leads_apart(table: &[u8], children: &[u8]) -> usize {
     let then: Vec<Vec<u8>> = (0..children.len()).map(|pick| after(reference::pick_written_out(&before, 0, pick))).collect();
     assert!(now.iter().all(|states| then.contains(states)) && then.iter().all(|states| now.contains(states)), "{table:?}, {children:?}");
     now.iter().zip(&then).filter(|(now, then)| now != then).count()
+}
+
+// ------------------------------------------------------------------------------------------------
+// Request (viii) of document 02: how long a run can go on
+// ------------------------------------------------------------------------------------------------
+
+/// "at most 6 times the number of plans"
+fn figure(n: usize) -> u64 {
+    answer(0, 0, 6 * n)
+}
+
+const NO_FIGURE: u64 = 1 << 16;
+
+/// A table of version 1 with these plans, each with its parent, body, flags, conditions and m.
+fn table_of(plans: &[(u16, [u8; 4])]) -> Vec<u8> {
+    let mut table = vec![b'A', b'P', b'T', 1, 0, plans.len() as u8, 0, 0];
+    for &(parent, [body, flags, present, wait]) in plans {
+        table.extend(parent.to_le_bytes());
+        table.extend([body, flags, present, 0, 0, wait]);
+    }
+    table
+}
+
+/// In both versions.
+fn expect_bound(table: &[u8], words: &[u32], expected: u64) {
+    let words = cases::bytes_of_words(words);
+    for table in [table.to_vec(), moved(To::Version2, table)] {
+        assert_eq!(reference::bound(&table, &words), expected, "{table:?} with {words:?}");
+    }
+}
+
+/// By both rules and in both versions: the answer, and the states that are left.
+fn expect_run(table: &[u8], words: &[u32], from: &[u8], budget: u16, expected: u64, left: &[u8]) {
+    let words = cases::bytes_of_words(words);
+    for table in [table.to_vec(), moved(To::Version2, table)] {
+        for rule in [1, 2] {
+            for rest in [reference::rest, reference::rest_jumping] {
+                let mut states = from.to_vec();
+                assert_eq!(rest(rule, &table, &mut states, &words, budget), expected);
+                assert_eq!(states, left);
+            }
+        }
+    }
+}
+
+/// A plan that waits for one child; a leaf with suspend, which holds, and reactivate, which does not; a leaf that completes.
+#[test]
+fn a_plan_moves_six_times() {
+    let table = table_of(&[(65_535, [4, 0, 0, 1]), (0, [0, 0, 4 | 8, 0]), (0, [0, 4, 32, 0])]);
+    let words = [0, 4, 32];
+    expect_bound(&table, &words, figure(3));
+    expect_run(&table, &words, &[0, 0, 0], 18, answer(0, 0, 10), &[6, 7, 6]);
+    expect_run(&table, &words, &[0, 0, 0], 9, answer(0, 1, 9), &[4, 5, 6]);
+    // its reactivate holds, or is absent, which is the same
+    expect_bound(&table, &[0, 4 | 8, 32], NO_FIGURE);
+    expect_bound(&changed(&table, &[(place(1, 4), 4)]), &words, NO_FIGURE);
+}
+
+#[test]
+fn a_chain_of_four_takes_twenty_steps() {
+    let table = table_of(&[(65_535, [4, 0, 0, 1]), (0, [4, 4, 0, 1]), (1, [4, 4, 0, 1]), (2, [0, 4, 0, 0])]);
+    expect_bound(&table, &[0; 4], figure(4));
+    expect_run(&table, &[0; 4], &[0; 4], 24, answer(0, 0, 20), &[6; 4]);
+    expect_run(&table, &[0; 4], &[0; 4], 20, answer(0, 0, 20), &[6; 4]);
+    expect_run(&table, &[0; 4], &[0; 4], 19, answer(0, 1, 19), &[4, 6, 6, 6]);
+}
+
+/// "Give one table showing that without the second premise a tree can move for ever."
+#[test]
+fn a_leaf_swings_for_ever() {
+    let table = table_of(&[(65_535, [0, 0, 4, 0])]);
+    expect_bound(&table, &[4], NO_FIGURE);
+    for (from, budget, left) in [(4, 6, 4), (4, 65_535, 5), (0, 6, 4), (0, 65_535, 5)] {
+        expect_run(&table, &[4], &[from], budget, answer(0, 1, budget.into()), &[left]);
+    }
+    // as soon as suspend does not hold, or reactivate is present and does not
+    expect_bound(&table, &[0], figure(1));
+    expect_bound(&changed(&table, &[(place(0, 4), 4 | 8)]), &[4], figure(1));
+}
+
+#[test]
+fn a_leaf_is_retried_for_ever() {
+    let table = table_of(&[(65_535, [4, 1, 32, 0]), (0, [0, 0, 16, 0])]);
+    expect_bound(&table, &[0, 16], NO_FIGURE);
+    expect_run(&table, &[0, 16], &[4, 1], 12, answer(0, 1, 12), &[4, 3]);
+    expect_run(&table, &[0, 16], &[4, 1], 65_535, answer(0, 1, 65_535), &[4, 1]);
+    // the flag counts, also where nobody would be retried
+    expect_bound(&table, &[0, 0], NO_FIGURE);
+    expect_bound(&changed(&table, &[(place(0, 3), 0)]), &[0, 16], figure(2));
+}
+
+/// Of each plan of a chain of three, where no other has anything.
+#[test]
+fn each_premise_of_each_plan() {
+    let chain = table_of(&[(65_535, [1, 0, 0, 0]), (0, [2, 0, 0, 0]), (1, [0, 0, 0, 0])]);
+    // present, manual and overridable of suspend (4) and reactivate (8); the word; whether both hold
+    let rows: [([u8; 3], u32, bool); 14] = [
+        ([0, 0, 0], 4, false),
+        ([4, 0, 0], 4, true),
+        ([4, 0, 0], 0, false),
+        ([4, 4, 0], 4, false),
+        ([4, 4, 0], 4 | 4 << 8, true),
+        ([4, 4, 0], 4 << 8, false),
+        ([4, 0, 0], 4 << 14, false),
+        ([4, 0, 4], 4 << 14, true),
+        ([12, 0, 0], 12, true),
+        ([12, 0, 0], 4, false),
+        ([12, 0, 0], 8, false),
+        ([12, 8, 0], 12, false),
+        ([12, 8, 0], 12 | 8 << 8, true),
+        ([12, 8, 8], 4 | 8 << 14, true),
+    ];
+    for p in 0..3 {
+        for (conditions, word, both) in rows {
+            let changes: Vec<(usize, u8)> = (0..3).map(|at| (place(p, 4 + at), conditions[at])).collect();
+            let table = changed(&chain, &changes);
+            let mut words = [0; 3];
+            words[p] = word;
+            expect_bound(&table, &words, if both { NO_FIGURE } else { figure(3) });
+            // the second premise alone, the first alone, and neither
+            for parent in 0..2 {
+                expect_bound(&changed(&table, &[(place(parent, 3), 1)]), &words, NO_FIGURE);
+            }
+        }
+    }
+    // wait-for-optional and named are other flags
+    expect_bound(&changed(&chain, &[(place(0, 3), 2), (place(1, 3), 4 | 2), (place(2, 3), 4)]), &[0; 3], figure(3));
+}
+
+/// A suspend of one plan and a reactivate of another.
+#[test]
+fn each_plan_is_asked_by_itself() {
+    for (suspends, reactivates) in [(0, 1), (1, 0), (1, 2), (2, 1)] {
+        let mut table = t1_with(&[]);
+        let mut words = [0; 3];
+        for (p, holding) in [(suspends, 4), (reactivates, 8)] {
+            table[place(p, 4)] |= 12;
+            words[p] = holding;
+        }
+        expect_bound(&table, &words, figure(3));
+        words[suspends] |= 8;
+        expect_bound(&table, &words, NO_FIGURE);
+    }
+}
+
+/// "1 to 9, 22" as of any call, then 10 of the words, then 12; and all of them before the premises are asked.
+#[test]
+fn bounds_refused_in_order() {
+    let retrying = t1_with(&[(place(0, 3), 1)]);
+    let wrong_words = bytes([0, 1, 1 << 31]);
+    for table in [retrying.clone(), moved(To::Version2, &retrying)] {
+        assert_eq!(reference::bound(&table, &bytes([0, 0, 0])), NO_FIGURE);
+        assert_eq!(reference::bound(&table, &wrong_words), answer(12, 1, 0));
+        for words in [&[][..], &[0; 4], &[0; 11], &[0; 13], &[0; 24], &[255; 8]] {
+            assert_eq!(reference::bound(&table, words), answer(10, 0, 0));
+        }
+        let spoiled = [(7, 1, 4), (place(1, 0), 7, 6), (place(2, 4), 64, 7), (place(2, 5), 4, 8)];
+        for (at, byte, number) in spoiled {
+            let refusal = reference::bound(&changed(&table, &[(at, byte)]), &[]) & 0xFFFF;
+            assert_eq!(refusal, number);
+        }
+        assert_eq!(reference::bound(&table[..7], &[]), answer(1, 0, 0));
+        assert_eq!(reference::bound(&changed(&table, &[(2, b'R')]), &[]), answer(2, 0, 0));
+        assert_eq!(reference::bound(&changed(&table, &[(3, 3)]), &[]), answer(3, 0, 0));
+        assert_eq!(reference::bound(&table[..table.len() - 1], &[]), answer(5, 0, 0));
+    }
+    assert_eq!(reference::bound(&t1_with(&[(place(0, 7), 3)]), &wrong_words), answer(9, 0, 0));
+    let node = formula_table(0, 3, &[], &[[6, 0, 0, 0]]);
+    assert_eq!(reference::bound(&node, &[]), answer(22, 0, 0));
+    // there is no rule and there are no states: neither 17 nor 11 is looked for, and a pick counts as in a step
+    assert_eq!(reference::bound(&T1, &bytes([1 << 24, 0, 0])), figure(3));
+    assert_eq!(reference::bound(&T1, &bytes([2 << 24, 0, 0])), answer(12, 0, 0));
 }

@@ -1,4 +1,5 @@
-//! What differ.rs and held.rs share: their command line, and a child that is sent calls, whose answers are compared with a reference's.
+//! What differ.rs, bounds.rs and held.rs share: their command line, and a child that is sent calls, whose answers are compared with a
+//! reference's.
 //!
 //! Requests are the tester's own. An answer is a u64; what the call leaves in the buffer that it may write, as many bytes as the reference
 //! says; and a u8, 1 when all other bytes that were lent, and the guard bytes around them, are as they were. Numbers are little-endian.
@@ -19,6 +20,8 @@ pub struct Options {
     /// The child's program and its arguments.
     child: Vec<String>,
     pub seed: u64,
+    /// What is counted: calls, or what takes several of them.
+    counted: &'static str,
     calls: u64,
     /// From so many calls on a run is held to what it must reach. A shorter one may well miss what is rare, and that says nothing about
     /// the child.
@@ -28,18 +31,18 @@ pub struct Options {
 }
 
 impl Options {
-    /// `--seed`, `--calls`, `--reach-from` and `--patience` are the tester's; everything else is the child's. Unless it is said, there are
-    /// `reach_from` calls, which must reach everything.
-    pub fn from_arguments(tester: &str, reach_from: u64) -> Result<Options, String> {
-        let usage = format!("usage: {tester} CHILD [ARGS..] --seed S --calls N [--reach-from N] [--patience SECONDS]");
+    /// `--seed`, `--reach-from`, `--patience` and an option for what is counted are the tester's; everything else is the child's. Unless
+    /// it is said, there are `reach_from` of these, which must reach everything.
+    pub fn from_arguments(tester: &str, counted: &'static str, reach_from: u64) -> Result<Options, String> {
+        let usage = format!("usage: {tester} CHILD [ARGS..] --seed S --{counted} N [--reach-from N] [--patience SECONDS]");
         let patience = Duration::from_secs(120);
-        let mut options = Options { child: Vec::new(), seed: 1, calls: reach_from, reach_from, patience };
+        let mut options = Options { child: Vec::new(), seed: 1, counted, calls: reach_from, reach_from, patience };
         let mut arguments = std::env::args().skip(1);
         while let Some(argument) = arguments.next() {
             let mut number = || arguments.next().and_then(|text| text.parse().ok()).ok_or(usage.clone());
             match argument.as_str() {
                 "--seed" => options.seed = number()?,
-                "--calls" => options.calls = number()?,
+                option if option.strip_prefix("--") == Some(counted) => options.calls = number()?,
                 "--reach-from" => options.reach_from = number()?,
                 "--patience" => options.patience = Duration::from_secs(number()?),
                 _ => options.child.push(argument),
@@ -57,11 +60,17 @@ impl Options {
         Options { child: self.child.clone(), calls: self.calls / many, reach_from: self.reach_from / many, ..*self }
     }
 
+    /// For a comparison that makes so many calls for each that is counted.
+    #[allow(dead_code)] // bounds.rs alone counts something else than calls.
+    pub fn each_takes(&self, calls: u64) -> Options {
+        Options { child: self.child.clone(), calls: self.calls * calls, reach_from: self.reach_from * calls, ..*self }
+    }
+
     /// Whether the run is held to what it must reach; says so where it is not.
     pub fn asks_for_all(&self) -> bool {
         let asks = self.calls >= self.reach_from;
         if !asks {
-            println!("what must be reached is asked for from {} calls on", self.reach_from);
+            println!("what must be reached is asked for from {} {} on", self.reach_from, self.counted);
         }
         asks
     }

@@ -1,5 +1,5 @@
-//! What a comparison has reached, in words, beside what it must reach: for turns.rs, picks.rs, losses.rs, formulas.rs, move_reached.rs and
-//! held.rs.
+//! What a comparison has reached, in words, beside what it must reach: for turns.rs, picks.rs, losses.rs, formulas.rs, move_reached.rs,
+//! bound_reached.rs, bounds.rs and held.rs.
 
 use std::collections::BTreeMap;
 
@@ -14,6 +14,12 @@ impl Lines {
         *self.counts.entry(line).or_default() += 1;
     }
 
+    /// How often a line was met.
+    #[allow(dead_code)] // bounds.rs alone tells some counts by name.
+    pub fn times(&self, line: &str) -> u64 {
+        self.counts.get(line).copied().unwrap_or_default()
+    }
+
     /// How many kinds there were, and of which there was least.
     pub fn print(&self, name: &str, wanted: &[String]) {
         print!("{name}: {} of {} kinds", self.counts.len(), wanted.len());
@@ -21,6 +27,16 @@ impl Lines {
             Some((line, count)) => println!("; least often, {count} times: {line}"),
             None => println!(),
         }
+    }
+
+    /// Prints, and answers whether no line but those that are wanted was met, and every one of them if it is asked for.
+    pub fn are_right(&self, name: &str, wanted: &[String], all: impl FnOnce() -> bool) -> Result<(), String> {
+        self.print(name, wanted);
+        self.are_possible(wanted)?;
+        if all() {
+            self.are_all(wanted)?;
+        }
+        Ok(())
     }
 
     /// No line but those that are wanted.
@@ -38,4 +54,16 @@ impl Lines {
             None => Ok(()),
         }
     }
+}
+
+/// The lines that are so.
+pub fn chosen(lines: &[(bool, &str)]) -> Vec<String> {
+    lines.iter().filter(|&(is_so, _)| *is_so).map(|(_, line)| line.to_string()).collect()
+}
+
+/// Classes of sizes: the name and the largest number in it.
+pub type Sizes<const N: usize> = [(&'static str, u64); N];
+
+pub fn class(sizes: &[(&str, u64)], size: u64) -> usize {
+    sizes.iter().position(|&(_, largest)| size <= largest).expect("no size is above the largest")
 }
