@@ -3,8 +3,8 @@
  * host/bounds.rs to compare. With the argument `plain` the calls go to host/plain.c instead. All numbers are little-endian.
  *
  *   call:   kind (1 byte: 1 step, 2 rest, 3 check, 4 to version 1, 5 to version 2, 6 bound), the rule (4 bytes), the lengths of table,
- *           states and words (4 bytes each; of a check the words are the record, and the states are empty; of a move the states are what
- *           stands in the output, and the words are empty; of a bound the states are), the budget (2 bytes), then the bytes of table,
+ *           states and words (4 bytes each; of a check the words are the record; of a check and of a bound the states are empty; of a
+ *           move the states are what stands in the output, and the words are empty), the budget (2 bytes), then the bytes of table,
  *           states and words
  *   answer: the answer (8 bytes), the states, and 1 if the bytes around all buffers are as they were, and those of table and words
  */

@@ -1489,7 +1489,9 @@ fn a_leaf_swings_for_ever() {
     }
     // as soon as suspend does not hold, or reactivate is present and does not
     expect_bound(&table, &[0], figure(1));
-    expect_bound(&changed(&table, &[(place(0, 4), 4 | 8)]), &[4], figure(1));
+    let held_back = changed(&table, &[(place(0, 4), 4 | 8)]);
+    expect_bound(&held_back, &[4], figure(1));
+    expect_run(&held_back, &[4], &[0], 6, answer(0, 0, 5), &[5]);
 }
 
 #[test]
