@@ -159,19 +159,18 @@ pub record Swings : Type 0 where
 pub swings-for-ever : Swings
 unfolding someBelow holds nobodyRetries bothHold nobodyHoldsBoth
 swings-for-ever =
-    let told = both-go-round .0 in
     record {
       keeps = refl;
       breaks = refl;
       turns =
           λ rule known.
           let up-again : List (List ℕ) = (4 ∷ []) ∷ [] in
-          let whole = right (isDone (callCheck rule swing (4 ∷ []) pushed)) _ (by-each swing pushed (4 ∷ []) down told rule known) in
+          let whole = right (isDone (callCheck rule swing (4 ∷ []) pushed)) _ (by-each swing pushed (4 ∷ []) down (both-go-round .0) rule known) in
           let falls = stepped rule swing pushed (4 ∷ []) (5 ∷ []) up-again whole in
           let rises = stepped rule swing pushed (5 ∷ []) (4 ∷ []) [] (onward rule swing pushed (4 ∷ []) (5 ∷ []) up-again whole) in
           (falls, rises);
-      moves = for-ever swing pushed (4 ∷ []) down told;
-      unbounded = no-figure swing pushed (4 ∷ []) down told;
+      moves = for-ever swing pushed (4 ∷ []) down (both-go-round .0);
+      unbounded = no-figure swing pushed (4 ∷ []) down (both-go-round .0);
     }
 
 -- a plan and its child that keep the second premise, and not the first: the child is retried again and again
@@ -184,10 +183,9 @@ pub record Retries : Type 0 where
 pub retries-for-ever : Retries
 unfolding someBelow holds nobodyRetries bothHold nobodyHoldsBoth
 retries-for-ever =
-    let told = both-go-round .1 in
     record {
       breaks = refl;
       keeps = refl;
-      moves = for-ever retrying aborting (4 ∷ 1 ∷ []) through told;
-      unbounded = no-figure retrying aborting (4 ∷ 1 ∷ []) through told;
+      moves = for-ever retrying aborting (4 ∷ 1 ∷ []) through (both-go-round .1);
+      unbounded = no-figure retrying aborting (4 ∷ 1 ∷ []) through (both-go-round .1);
     }

@@ -40,7 +40,8 @@ module _ (t w : List ℕ) (hold : T (premises t w)) where
   unfolding nobodyRetries
   once p l =
       let none = left (nobodyRetries t) (nobodyHoldsBoth t w) hold in
-      rw (none-true (λ q. retryAborted (entry t q)) (planCount t) (is-false _ none) p l) tt
+      let lacks = none-true (λ q. retryAborted (entry t q)) (planCount t) (is-false _ none) p l in
+      rw lacks tt
 
   never : (p : ℕ) → p < planCount t → T (holds Suspend (entry t p) (word w p)) → T (holds Reactivate (entry t p) (word w p)) → ⊥
   unfolding nobodyHoldsBoth bothHold
@@ -76,8 +77,8 @@ pub six-steps-a-plan :
     (t w : List ℕ) → T (nobodyRetries t) → T (nobodyHoldsBoth t w) → (rule : ℕ) (s : List ℕ) (budget : ℕ)
     → callCheck rule t s w ≡ Done → 6 * planCount t ≤ budget
     → (k : ℕ) × (k ≤ 6 * planCount t) × (runAnswer rule t s w budget ≡ rest.Rested k)
-six-steps-a-plan t w once apart rule s budget done large =
-    let run = rests-within t w (both (nobodyRetries t) (nobodyHoldsBoth t w) once apart) .rests rule s budget done large in
+six-steps-a-plan t w x y rule s budget done large =
+    let run = rests-within t w (both (nobodyRetries t) (nobodyHoldsBoth t w) x y) .rests rule s budget done large in
     (run .steps, run .few, run .answer)
 
 -- what a call answers is kept
