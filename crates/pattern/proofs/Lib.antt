@@ -1,2 +1,3 @@
 -- Laws for the proofs of this crate's functions.
 pub mod Written
+pub mod Unique

@@ -1,6 +1,7 @@
 -- One answer: any two that the contract of a public function permits are equal, the contract being as Rattle reads it. Assumes nothing.
 use Rattle.rules.proofs.Unique.{OneAnswer, by-equation}
 use Rattle.reading.proofs.entry_at.Reads as entry-at
+use Rattle.reading.proofs.is_leaf.Reads as is-leaf
 use Rattle.reading.proofs.parent_at.Reads as parent-at
 use Rattle.reading.proofs.word_at.Reads as word-at
 use Rattle.reading.proofs.is_first_version.Reads as is-first-version
@@ -14,6 +15,7 @@ use Rattle.reading.proofs.u16_within.Reads as u16-within
 -- every function of this crate
 pub reading-once :
     OneAnswer entry-at.Post
+    × OneAnswer is-leaf.Post
     × OneAnswer parent-at.Post
     × OneAnswer word-at.Post
     × OneAnswer is-first-version.Post
@@ -24,6 +26,7 @@ pub reading-once :
     × OneAnswer byte-at.Post
     × OneAnswer u16-within.Post
 reading-once = (
+  by-equation,
   by-equation,
   by-equation,
   by-equation,

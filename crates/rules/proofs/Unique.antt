@@ -20,6 +20,9 @@ use Rattle.rules.proofs.PlanEntry.retries_aborted.Reads as retries-abor
 use Rattle.rules.proofs.PlanEntry.waits_for_optional.Reads as waits-for-optional
 use Rattle.rules.proofs.PlanEntry.is_named.Reads as is-named
 use Rattle.rules.proofs.PlanEntry.wait_for.Reads as wait-for
+use Rattle.rules.proofs.at_least.Reads as at-least
+use Rattle.rules.proofs.Joint.join.Reads as join
+use Rattle.rules.proofs.Node.asks.Reads as asks
 use Rattle.rules.proofs.is_rule.Reads as is-rule
 use Rattle.rules.proofs.pick_of.Reads as pick-of
 
@@ -60,6 +63,10 @@ pub entries-once :
     × OneAnswer retries-aborted.Post × OneAnswer waits-for-optional.Post × OneAnswer is-named.Post
     × OneAnswer wait-for.Post
 entries-once = (by-equation, by-equation, by-equation, by-equation, by-equation, by-equation, by-equation)
+
+-- those of a node of a formula
+pub nodes-once : OneAnswer at-least.Post × OneAnswer join.Post × OneAnswer asks.Post
+nodes-once = (by-equation, by-equation, by-equation)
 
 -- and that of a rule number
 pub rule-once : OneAnswer is-rule.Post
