@@ -44,8 +44,7 @@ use rules::is_set;
 // the states before the step, `new` the new states of the plans before p, its parent's among them: parents stand before their children,
 // and plans move in table order. n is the number of plans. For each plan, `ranks` has its rank among its siblings, `names` its children
 // that are named in its wait-for and, from n on, how many of these it waits for, `sets` its children by old state, `picks` the rank that
-// it picks. The root acts as if under a parent that stays Activated, considers it when Inactive, activates it when Ready and never
-// retries it.
+// it picks.
 pub fn next_state(
     rule: u32,
     table: &[u8],
@@ -153,7 +152,7 @@ pub fn next_state(
     }
 }
 
-// The state of plan p's parent among states, here the new ones. The root acts as if under a parent that stays Activated.
+// The state of plan p's parent, here its new one. The root moves as if it had a parent that was and stays Activated.
 fn parent_state(table: &[u8], states: &[u8], p: usize) -> PlanState
     requires { ⌜ (8 * p + 16 ≤ length (now table)) × (0 < p → parent (now table) p < length (now states)) ⌝ }
     ensures { λ r. ⌜ r ≡ parentState (now (table .entry)) (now (states .entry)) p ⌝ }
@@ -165,7 +164,8 @@ fn parent_state(table: &[u8], states: &[u8], p: usize) -> PlanState
     PlanState::from_byte(states[q])
 }
 
-// Whether a condition of plan p holds, by the plan's entry and input word.
+// Whether a condition of plan p holds, by the plan's entry and input word (RULES 4.3). An absent suspend or abort never holds, any other
+// absent condition always.
 fn holds(c: Condition, table: &[u8], words: &[u8], p: usize) -> bool
     requires { ⌜ OwnBytes (now table) (now words) p ⌝ }
     ensures { λ r. ⌜ r ≡ Words·holds c (entry (now (table .entry)) p) (word (now (words .entry)) p) ⌝ }
@@ -173,7 +173,7 @@ fn holds(c: Condition, table: &[u8], words: &[u8], p: usize) -> bool
     entry_at(table, p).holds(c, word_at(words, p))
 }
 
-// Whether a condition of plan p is satisfiable, likewise.
+// Whether plan p's filter or setup can still be satisfied, or is overridable (RULES 4.5).
 fn satisfiable(c: Condition, table: &[u8], words: &[u8], p: usize) -> bool
     requires { ⌜ OwnBytes (now table) (now words) p ⌝ }
     ensures { λ r. ⌜ r ≡ Words·satisfiable c (entry (now (table .entry)) p) (word (now (words .entry)) p) ⌝ }
@@ -181,8 +181,8 @@ fn satisfiable(c: Condition, table: &[u8], words: &[u8], p: usize) -> bool
     entry_at(table, p).satisfiable(c, word_at(words, p))
 }
 
-// Whether too many children of plan p are lost: wait-for fails of those that are not. Lost, by their old states, are the Rejected and the
-// Aborted ones; by rule 2, if p has retry-aborted, the Rejected ones only.
+// Whether too many children of plan p are lost: wait-for (RULES 3.9) does not hold of those that were not lost. Lost are those that were
+// Rejected or Aborted; by rule 2 (RULES 1.8), if p has retry-aborted, those that were Rejected only.
 fn too_many_lost(rule: u32, table: &[u8], n: usize, names: &[u64], sets: &[u64], p: usize) -> bool
     requires { ⌜ OwnChildren (now table) n (now names) (now sets) p ⌝ }
     ensures { λ r. ⌜ TellsLost (now (sets .entry)) p rule (now (table .entry)) r ⌝ }
@@ -209,8 +209,8 @@ fn not_lost(rule: u32, again: bool, sets: &[u64], p: usize) -> u64
     others
 }
 
-// Whether the children of plan p, by their old states, let it complete: wait-for holds of the Completed ones, and, with
-// wait-for-optional, all are ended; of a body of two (5 to 8), both count as ended.
+// Whether the children of plan p let it complete: wait-for holds of those that were Completed, and, with wait-for-optional, all were
+// ended; of the two children of a body 5 to 8 an Inactive one can count as ended (RULES 5.19).
 fn may_complete(table: &[u8], n: usize, names: &[u64], sets: &[u64], p: usize) -> bool
     requires { ⌜ OwnChildren (now table) n (now names) (now sets) p ⌝ }
     ensures { λ r. ⌜ TellsComplete (now (sets .entry)) p (now (table .entry)) r ⌝ }
@@ -282,8 +282,9 @@ fn after_suspend(body: Body) -> bool
     body.is(Body::OnSuspend) | body.is(Body::OnAbortOrSuspend)
 }
 
-// What plan p is ordered, given its parent's new state: nothing unless the parent was and stays Activated, and a retry only if the parent
-// has retry-aborted. The root acts as if under a parent that considers it when Inactive and activates it when Ready.
+// Whether plan p's parent considers, activates or retries it, by the parent's body, its children and its word (RULES section 6): none of
+// them unless the parent was and stays Activated, and the last only if the parent has retry-aborted. The root moves as if it had a parent
+// that considers it when Inactive and activates it when Ready; nobody retries it.
 fn orders(
     table: &[u8],
     ranks: &[u8],
