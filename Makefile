@@ -1,6 +1,6 @@
 # make            proves and builds: the archive target/libasbru.a, the programs aprcheck, aptmove and aptime, and what ./check runs
 # make check      the examples and the command's own tests: seconds, once all is built
-# make install    the header, its companion, the archive and asbru.pc, under PREFIX (and DESTDIR)
+# make install    the header, its companion, the archive, asbru.pc and the rules in words, under PREFIX (and DESTDIR)
 # make test       the gate: everything proved from nothing, every must-fail edit, all hosts
 SHELL := bash
 .SHELLFLAGS := -euo pipefail -c
@@ -37,9 +37,10 @@ check: all
 	@bash host/front
 
 install: target/libasbru.a
-	install -d $(DESTDIR)$(PREFIX)/include $(DESTDIR)$(PREFIX)/lib/pkgconfig
+	install -d $(addprefix $(DESTDIR)$(PREFIX)/,include lib/pkgconfig share/doc/asbru)
 	install -m 644 include/asbru.h include/asbru_text.h $(DESTDIR)$(PREFIX)/include
 	install -m 644 target/libasbru.a $(DESTDIR)$(PREFIX)/lib
+	install -m 644 docs/RULES.md $(DESTDIR)$(PREFIX)/share/doc/asbru
 	printf '%s\n' 'prefix=$(PREFIX)' 'Name: asbru' 'Description: the rules of Asbru plans, proved' 'Version: $(version)' \
 	    'Cflags: -I$${prefix}/include' 'Libs: -L$${prefix}/lib -lasbru' >$(DESTDIR)$(PREFIX)/lib/pkgconfig/asbru.pc
 

@@ -3,18 +3,17 @@
  *
  * Four functions over byte buffers that the caller owns: one step, a run to rest, how many steps such a run can take, and the checker of
  * treatment records. Two move a table from one version to the other, and three make what a word says of a pattern from how long the pattern
- * has held. All are written in Rattle and proved (crate `tablet`). Link with libasbru.a, which `make` writes for x86-64. docs/RULES.md has
- * the rules in words, in numbered paragraphs; asbru_text.h, which is not proved, has a text for each state, body, kind of node and number.
+ * has held. All are written in Rattle and proved (crate `tablet`). Link with libasbru.a, which `make` writes for x86-64. docs/RULES.md,
+ * which `make install` puts into share/doc/asbru, has the rules in words, in numbered paragraphs: 'RULES 5.3' here. asbru_text.h, which is
+ * not proved, has a text for each state, body, kind of node and number.
  *
  *
  * RULES 1 AND 2
  *
  * asbru_step, asbru_rest and asbru_check take the number of a rule first, one of `enum asbru_rule`; any other number is refused before all
  * else. (asbru_bound takes none: what it answers holds by both.) The rules differ in one thing, the children that are lost to a plan with
- * retry-aborted. Under ASBRU_RULE_1 an Aborted child is lost although the plan would retry it: where wait-for then fails of the children
- * that are left, the plan aborts before any retry. Under ASBRU_RULE_2 an Aborted child of such a plan is not lost, and only Rejected ones
- * are. Without retry-aborted the two agree, and Rejected and Aborted children are lost. Treatments of now go by ASBRU_RULE_2; ASBRU_RULE_1
- * is for records that were kept before it came. A record does not say by which rule it was kept: whoever keeps both kinds keeps them apart.
+ * retry-aborted (RULES 1.8, 5.13). Treatments of now go by ASBRU_RULE_2; ASBRU_RULE_1 is for records that were kept before it came. A
+ * record does not say by which rule it was kept: whoever keeps both kinds keeps them apart.
  *
  *
  * BUFFERS
@@ -53,16 +52,8 @@
  *   An operand has a higher number than the node that asks it, and is there. Each node is used exactly once: it is the first of one plan's
  *   formula, or one operand of one node.
  *
- * States: n bytes, one of `enum asbru_state` for each plan. A treatment starts with all of them ASBRU_INACTIVE.
- *   Selection is Considered, Possible, Ready; execution Activated and Suspended; ended Completed, Aborted, Rejected. States that are
- *   handed in keep to this, and those that asbru_step and asbru_rest leave do so too:
- *   - A child of a plan that is Inactive, in selection or Rejected is Inactive; of one that is Completed or Aborted, Inactive or
- *     ended; of a Suspended one, not Activated.
- *   - At most one child of an any-order plan is in execution.
- *   - Of a sequential plan, every child after the first not done is Inactive. Done: Completed, Rejected, or Aborted without
- *     retry-aborted.
- *   - The second child of an on-abort plan is Inactive unless the first is Aborted; that of an on-suspend or on-abort-or-suspend plan
- *     unless the first is in execution, Completed or Aborted; that of an if-then-else plan unless the first is Inactive.
+ * States: n bytes, one of `enum asbru_state` for each plan. A treatment starts with all of them ASBRU_INACTIVE. States that are handed in
+ *   suit each other (RULES section 7, number 11), and those that asbru_step and asbru_rest leave do so.
  *
  * Words: 4n bytes, a 32-bit word for each plan, which says what is so of that plan in one step. It is put together by `|` from the
  *   ASBRU_ macros below; asbru_put_word puts it at its place. All other bits are 0.
@@ -78,66 +69,39 @@
  *
  * WHAT WORDS DO, FOR THE AUTHOR OF A HOST
  *
+ * The rules are RULES sections 4 to 6. This is what a host's author may trip over.
  * - Words are of one step: nothing is kept of them. A bit that should count in the next step is set again there.
  * - An absent filter, setup, reactivate or complete always holds, and an absent suspend or abort never does. Bits of an absent condition
- *   move nothing (but see number 12). So a plan whose complete is absent completes as soon as its children let it, if nothing aborts or
- *   suspends it: a leaf does so in the step after its activation, and so does a plan with wait number 0 and without wait-for-optional,
- *   before it has considered any child. A root without complete and without wait-for-optional whose wait number was forgotten gives an
- *   empty treatment that is in order.
- * - A plan asks its wait-for twice: it is Aborted where wait-for does not hold of its children that are not lost, and its children let it
- *   complete where it holds of the Completed ones. In version 1 wait-for holds of some children if at least m of them are named, in version
- *   2 if the formula is true with each ASBRU_CHILD read as 'this child is one of them' and each ASBRU_AT_LEAST as 'at least a of them are
- *   named'. The wait-for of a leaf always holds.
- * - ASBRU_NOT counts as it stands, for loss too. A plan that waits for 'not child 0' is lost as soon as it is asked while child 0 is
- *   neither Rejected nor Aborted: it is Aborted in the step after its activation, before it has considered any child. With ASBRU_XOR of
- *   two children it is the same. So ASBRU_NOT is for children that have already failed, beside something that holds until then, as in
- *   'child 1, or child 2 and not child 0'. Where child 0 need not be done, leave it out of the formula.
- * - A plan that is Considered is Rejected in the step in which its filter is present, does not hold, is not overridable and is not said
- *   to be satisfiable; a Possible one by its setup. It stays Rejected unless a plan above it is retried. So where nothing is known yet,
- *   the word of a plan that has them is not 0 but ASBRU_SATISFIABLE of both.
+ *   move nothing (but see number 12). So a leaf without complete is Completed in the step after its activation, and so is a plan without
+ *   complete, with wait number 0 and without wait-for-optional, before it has considered any child (RULES 5.17): a root whose wait number
+ *   was forgotten gives an empty treatment that is in order.
+ * - Where nothing is known yet, a word is not 0. A Considered plan is Rejected in the step in which its filter is present, does not hold,
+ *   is not overridable and is not said to be satisfiable, a Possible one by its setup; so the word of a plan that has them says
+ *   ASBRU_SATISFIABLE of both. Of an if-then-else plan a word without ASBRU_IF_SATISFIABLE says that its condition can no longer be
+ *   satisfied, and its second child is considered (RULES 6.16).
  * - A manual condition that is not overridden holds while its pattern is satisfied and it is triggered, both in the same word; a trigger
- *   alone does nothing. Override makes an overridable condition hold whatever else the word says (number 12 apart). On a condition that
- *   is not manual a trigger is not looked at, nor is an override on one that is not overridable.
- * - Of an Activated plan abort counts first, then suspend, then complete, if its children let it; of a Suspended one abort, then
- *   reactivate. It does not complete while it is Suspended.
- * - The pick moves something only where an any-order plan may activate a child (number 12 reads it always): the plan was Activated and
- *   stays so, none of its children was in execution and, with retry-aborted, none was Aborted. If the child of that rank was Ready, it
- *   is activated, be it named or not. If it was not, the pick counts for nothing, and the plan falls back on the Ready child of lowest rank
- *   among the named ones, or, where no named one was Ready, on the Ready child of lowest rank. So a pick of 0, which is that of an empty
- *   word, is a pick too, and a child cannot be held back by picking one that is not Ready. Named are the children with ASBRU_NAMED, in
- *   version 2 too, whatever the formula asks. Up to ASBRU_VERSION 6 a plan fell back on the Ready child of lowest rank, named or not: a
- *   host that wants that child picks it. asbru_check accepts what some picks explain, so that no verdict changed.
- * - The second child of an on-abort, on-suspend or on-abort-or-suspend plan is considered in a step before which the first was Aborted,
- *   Suspended, or one of the two; as every order, only where the plan was Activated and stays so. So a suspension that is over after one
- *   step is enough, and the second then goes on beside the first; but one that the first shares with its plan is none if both are
- *   reactivated in one step. Both children are activated as soon as they are Ready.
- * - An if-then-else plan that was Activated and stays so reads ASBRU_IF_SATISFIED and ASBRU_IF_SATISFIABLE in its own word while both its
- *   children are Inactive: with both bits the first is considered, with none the second, and with ASBRU_IF_SATISFIABLE alone neither yet.
- *   So where nothing is known of the condition, the word of such a plan is not 0 but ASBRU_IF_SATISFIABLE. Once one child is considered
- *   the bits move nothing (number 12 reads them always), and the other child stays Inactive unless a plan above is retried.
- * - With wait-for-optional a plan completes only when all its children are ended. Of the bodies from ASBRU_ON_ABORT on an Inactive child
- *   counts as ended when the other one is; but the second of an on-abort or on-abort-or-suspend plan does not beside an Aborted first, for
- *   its turn has come.
- * - A plan moves at most once in a step, and a child feels its parent's new state in the same step: where a plan ends, its children in
- *   selection are Rejected and those in execution Aborted with it. From all plans Inactive the root is Activated after four steps and
- *   its first children after eight, at the earliest.
+ *   alone does nothing. Override makes an overridable condition hold whatever else the word says (number 12 apart). On a condition that is
+ *   not manual a trigger is not looked at, nor is an override on one that is not overridable.
+ * - The pick moves something only where an any-order plan may activate a child (RULES 6.7; number 12 reads it always). Where the child of
+ *   that rank was not Ready, the pick counts for nothing, and the plan falls back on another Ready child, a named one if there is one
+ *   (RULES 6.8). So a pick of 0, which is that of an empty word, is a pick too, and a child cannot be held back by picking one that is not
+ *   Ready. Up to ASBRU_VERSION 6 a plan fell back on the Ready child of lowest rank, named or not: a host that wants that child picks it.
+ *   No answer of asbru_check changed by that (RULES 9.14).
+ * - ASBRU_NOT counts as it stands, for loss too. A plan that waits for 'not child 0' is Aborted in the step after its activation, before it
+ *   has considered any child, since child 0 has not failed; with ASBRU_XOR of two children it is the same (RULES 5.22). Where child 0 need
+ *   not be done, leave it out of the formula.
+ * - A plan moves at most once in a step, and a child feels its parent's new state in the same step. From all plans Inactive the root is
+ *   Activated after four steps and its first children after eight, at the earliest.
  *
  *
  * HOW LONG A RUN TAKES
  *
- * asbru_bound tells before a run how many steps it takes at most. It is asked with the table and the words that the run will hold, and
- * knows a figure under two premises:
- * - no plan has ASBRU_RETRY_ABORTED;
- * - no plan has its suspend and its reactivate both holding under its word. An absent reactivate always holds, so a plan whose suspend
- *   holds needs a reactivate that is present and does not hold.
- *   The figure is 6 * n, at most 1536. With a budget of at least the figure asbru_rest rests, after at most as many steps: by both rules
- * and from all states that it does not refuse, not only from all plans Inactive. So with the figure as its budget a run is never still
- * moving, and a screen can say how many steps are left at most; a host that makes single steps needs no more of them. The figure is a
- * promise and no forecast: most runs rest far sooner. A chain of single children can take 5 * n, and we have seen no run that takes more.
- *   Where a premise fails no figure is known. The run may rest all the same: that depends on the states too. Or it goes on for ever: an
- * Activated leaf alone whose suspend holds, with reactivate absent, is Suspended, Activated, Suspended, .. as long as the word is held. So
- * give the run a budget that the screen can wait for, and where it is used up show that the plans still move; their states are then those
- * of one moment, and no outcome.
+ * asbru_bound tells before a run how many steps it takes at most (RULES section 14). It is asked with the table and the words that the run
+ * will hold, and knows a figure, 6 * n, where no plan has ASBRU_RETRY_ABORTED and no plan has its suspend and its reactivate both holding
+ * under its word; an absent reactivate always holds. With a budget of at least the figure asbru_rest rests, by both rules and from all
+ * states that it does not refuse.
+ *   Where no figure is known the run may rest all the same, or go on for ever. So give it a budget that the screen can wait for, and where
+ * it is used up show that the plans still move; their states are then those of one moment, and no outcome.
  *   The figure is of held words. Once a word changes, be it a trigger or a pick, ask anew, and count anew from there.
  *
  *
@@ -150,11 +114,7 @@
  *   A history is at most ASBRU_MOST_SAMPLES samples, their minutes strictly rising, none after the minute of asking. A sample says whether
  * the underlying pattern is true from its minute until the next sample's, the last one through the minute of asking; at all other minutes
  * it counts as not true. asbru_sample makes one.
- *   The annotation is satisfied exactly where there is an interval, from a first to a last minute, at all minutes of which the pattern is
- * true, that keeps the six bounds (its duration is last less first), before which the pattern is not true or which starts at the reference
- * point plus the earliest start, and after which it is not true or which finishes at the reference point plus the latest finish. It is
- * satisfiable exactly where the history can go on after the minute of asking, in some way and as long as need be, such that it is
- * satisfied. What is satisfied is satisfiable.
+ *   What it is to be satisfied and to be satisfiable: RULES 12.6 and 12.8. What is satisfied is satisfiable.
  *   So a host that asks every condition's pattern and puts the answers into words by asbru_with_pattern hands in no word that number 12
  * refuses for being satisfied but not satisfiable. A host that counts from now hands in the minute of asking as the reference point: where
  * nothing may finish after it, what is not satisfied is not satisfiable either, since the past stays as it is, and a filter or setup then
@@ -164,13 +124,10 @@
  * MOVING TABLES
  *
  * asbru_to_version_2 moves every good table of version 1 to version 2, asbru_to_version_1 a good one of version 2 to version 1 exactly
- * where all its nodes are ASBRU_AT_LEAST. The header gets the other version. Plans stay as they are, but for byte 7 of a plan with
- * children: in version 2 it is the number of the plan's node, an ASBRU_AT_LEAST whose a is m, and the nodes stand in the order of their
- * plans; in version 1 it is the a of its node.
- *   What is written passes all checks of a table and means the same: every step by either rule is the same under both tables, and every
- * record, which need not be touched, gets the same answer of asbru_check. Moved to version 2 and back a table has its old bytes again.
- * Moved to version 1 and back it has them exactly where its nodes stood in the order of their plans, and else the nodes are put into that
- * order.
+ * where all its nodes are ASBRU_AT_LEAST (RULES section 13). What is written passes all checks of a table and means the same: every step by
+ * either rule is the same under both tables, and every record, which need not be touched, gets the same answer of asbru_check. Moved to
+ * version 2 and back a table has its old bytes again; moved to version 1 and back, exactly where its nodes stood in the order of their
+ * plans.
  *
  *
  * ANSWERS
@@ -384,10 +341,8 @@ enum asbru_answer {
     /* the annotation to be normalised admits no interval */
     ASBRU_REFUSED_NO_INTERVAL = 21,
     /* [0, or in the plan's place a node; looked for after 8 and before 9] of a table of version 2: with 0, there are more than 256 nodes,
-       or byte 7 of a plan with children names a node that is not there. Else the lowest node whose kind is above 5, whose last byte is
-       not 0, whose b is not 0 though its kind has none, one of whose operands is not above it or not there, or which is not used exactly
-       once. Where no node is so, the lowest ASBRU_CHILD whose rank is not below the number of children of the plan in whose formula it
-       stands */
+       or byte 7 of a plan with children names a node that is not there; else the lowest node that is not as BUFFERS asks, ranks last
+       (RULES 10.22) */
     ASBRU_REFUSED_FORMULA = 22,
     /* a node of the table, which passes all checks above, is of another kind than ASBRU_AT_LEAST; only of asbru_to_version_1 */
     ASBRU_REFUSED_NODE_KIND = 23,
