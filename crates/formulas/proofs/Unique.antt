@@ -13,7 +13,7 @@ use contract.Lifetimes.{Lfts}
 use denote.Ref.{now}
 use Rattle.rules.proofs.Unique.{one-answer, OneAnswer, by-equation}
 use Rattle.children.specs.Sets.{setOf}
-use Rattle.formulas.specs.Asked.{Numbered, TellsWaitFor}
+use Rattle.formulas.specs.Asked.{Numbered}
 use Rattle.formulas.proofs.find_numbers.Reads as find-numbers
 use Rattle.formulas.proofs.waits_for_none.Reads as waits-for-none
 use Rattle.formulas.proofs.wait_for.Reads as wait-for
@@ -39,6 +39,6 @@ find-numbers-once κs a z z′ e e′ h h′ = numbered-once _ _ _ _ _ h h′
 
 -- of a set of the plan's children the answer is one
 pub wait-for-once :
-    (t : List ℕ) (p set : ℕ) (f : ℕ → Bool) → set ≡ setOf t p f → (r r′ : Bool) → TellsWaitFor t p set r → TellsWaitFor t p set r′
-    → r ≡ r′
-wait-for-once t p set f is r r′ h h′ = one-answer (h f is) (h′ f is)
+    (κs : Lfts 2) (a : _) (z z′ : _) (e e′ : _) → wait-for.Post κs a z e → wait-for.Post κs a z′ e′
+    → (f : ℕ → Bool) → a .1 .1 .1 .1 .0 ≡ setOf (now (a .0)) (a .1 .1 .1 .0) f → z ≡ z′
+wait-for-once κs a z z′ e e′ h h′ f is = one-answer (h f is) (h′ f is)

@@ -50,9 +50,9 @@ module _ (rule : ℕ) (t s w : List ℕ) (done : callCheck rule t s w ≡ Done) 
       go Nowhere = still-passes budget
 
 pub left-again :
-    (rule : ℕ) (t s w v : List ℕ) → callCheck rule t s w ≡ Done → callCheck rule t s v ≡ Done
-    → (callCheck rule t (stepStates rule t s w) v ≡ Done) × ((budget : ℕ) → callCheck rule t (runStates rule t s w budget) v ≡ Done)
-left-again rule t s w v done next = (
-  other-states rule t s v next (stepStates rule t s w) (step-leaves rule t s w done),
-  λ budget. other-states rule t s v next (runStates rule t s w budget) (run-leaves rule t s w done budget),
+    (rule rule′ : ℕ) (t s w v : List ℕ) → callCheck rule t s w ≡ Done → callCheck rule′ t s v ≡ Done
+    → (callCheck rule′ t (stepStates rule t s w) v ≡ Done) × ((budget : ℕ) → callCheck rule′ t (runStates rule t s w budget) v ≡ Done)
+left-again rule rule′ t s w v done next = (
+  other-states rule′ t s v next (stepStates rule t s w) (step-leaves rule t s w done),
+  λ budget. other-states rule′ t s v next (runStates rule t s w budget) (run-leaves rule t s w done budget),
 )
