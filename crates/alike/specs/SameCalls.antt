@@ -1,4 +1,4 @@
--- Document 02 (vi): two tables under which every call does the same. Assumes nothing.
+-- Document 02 (vi): two tables under which reading, steps, runs, sub trees and verdicts are the same. Assumes nothing.
 use Prim.Native.Nat.{ℕ}
 use mathlib.Core.Path.{_≡_}
 use mathlib.Core.List.{List}

@@ -11,8 +11,8 @@ use Rattle.rules.specs.Answers.{tableCheck, callWordsCheck}
 use Rattle.rules.specs.declared.Refusal.{Refusal}
 use Rattle.rules.specs.declared.Refusal.the-variants.{Lengths}
 use Rattle.rules.specs.declared.Outcome.the-variants.{Done, Refused}
-use Rattle.rules.specs.declared.Bound.{Bound}
-use Rattle.rules.specs.declared.Bound.the-variants as bound
+use Rattle.rules.specs.declared.Figure.{Figure}
+use Rattle.rules.specs.declared.Figure.the-variants as figure
 use Rattle.rules.proofs.Below.{some-either}
 use Rattle.rules.proofs.Outcomes.{pass, stop, then-next, then-stops}
 use Rattle.demands.specs.Bound.{mostSteps, nobodyRetries, bothHold, nobodyHoldsBoth, premises, boundCheck, boundAnswer}
@@ -24,25 +24,25 @@ neither false b = refl
 
 module _ (t w : List ℕ) where
   -- the figure, or none
-  abbrev told : Bound
-  told = cond (premises t w) (bound.Within (mostSteps (planCount t))) bound.Unknown
+  abbrev told : Figure
+  told = cond (premises t w) (figure.Within (mostSteps (planCount t))) figure.Unknown
 
-  pub told-figure : (k : ℕ) → k ≡ mostSteps (planCount t) → premises t w ≡ true → bound.Within k ≡ told
+  pub told-figure : (k : ℕ) → k ≡ mostSteps (planCount t) → premises t w ≡ true → figure.Within k ≡ told
   told-figure k is kept = rw (kept, is) refl
 
-  pub told-none : premises t w ≡ false → bound.Unknown ≡ told
+  pub told-none : premises t w ≡ false → figure.Unknown ≡ told
   told-none broken = rw broken refl
 
-  refused : (why : Refusal) → boundCheck t w ≡ Refused why → boundAnswer t w ≡ bound.Refused why
+  refused : (why : Refusal) → boundCheck t w ≡ Refused why → boundAnswer t w ≡ figure.Refused why
   unfolding boundAnswer
   refused why e = rw (e, boundAnswer)
 
-  pub table-refused : (why : Refusal) → tableCheck t ≡ Refused why → boundAnswer t w ≡ bound.Refused why
+  pub table-refused : (why : Refusal) → tableCheck t ≡ Refused why → boundAnswer t w ≡ figure.Refused why
   unfolding boundCheck
   table-refused why e = refused why (then-stops (tableCheck t) _ why e)
 
   module _ (done : tableCheck t ≡ Done) (n : ℕ) (whole : n ≡ planCount t) where
-    pub length-refused : (length w ≡ 4 * n → ⊥) → boundAnswer t w ≡ bound.Refused Lengths
+    pub length-refused : (length w ≡ 4 * n → ⊥) → boundAnswer t w ≡ figure.Refused Lengths
     unfolding boundCheck
     length-refused other = refused Lengths (then-next (tableCheck t) _ done ∙ stop _ _ _ (ap not (ne-eqb _ _ (rw whole at other))))
 
@@ -51,7 +51,7 @@ module _ (t w : List ℕ) where
       unfolding boundCheck
       words-left = then-next (tableCheck t) _ done ∙ pass _ _ _ (ap not (eq-eqb _ _ (rw whole at long)))
 
-      pub words-refused : (why : Refusal) → callWordsCheck t w ≡ Refused why → boundAnswer t w ≡ bound.Refused why
+      pub words-refused : (why : Refusal) → callWordsCheck t w ≡ Refused why → boundAnswer t w ≡ figure.Refused why
       words-refused why e = refused why (words-left ∙ e)
 
       pub figure-told : callWordsCheck t w ≡ Done → boundAnswer t w ≡ told

@@ -6,7 +6,7 @@ ghost use mathlib.Core.Bool.{cond, _&&_, _||_};
 ghost use Rattle.rules.specs.Lists.{someBelow};
 ghost use Rattle.rules.specs.Table.{planCount, retryAborted};
 ghost use Rattle.rules.specs.Words.{holds};
-ghost use Rattle.rules.specs.declared.Bound.the-variants as is;
+ghost use Rattle.rules.specs.declared.Figure.the-variants as is;
 ghost use Rattle.rules.specs.declared.Condition.the-variants.{Suspend, Reactivate};
 ghost use Rattle.lent.specs.Calls.{Tabled};
 ghost use Rattle.demands.specs.Bound.{mostSteps, premises, RestsWithin, boundAnswer};
@@ -15,8 +15,8 @@ use lent::check_words;
 use reading::entry_at;
 use reading::plan_count;
 use reading::word_at;
-use rules::Bound;
 use rules::Condition;
+use rules::Figure;
 use rules::Outcome;
 use rules::PlanEntry;
 use rules::Refusal;
@@ -24,7 +24,7 @@ use table::read_table;
 
 // The most steps that a run under these words takes to rest, by either rule and from all states that pass; where a premise fails, that no
 // figure is known; or a refusal of the table or the words.
-pub fn bound(table: &[u8], words: &[u8]) -> Bound
+pub fn bound(table: &[u8], words: &[u8]) -> Figure
     ensures answer { λ r. ⌜ r ≡ boundAnswer (now (table .entry)) (now (words .entry)) ⌝ }
     ensures promise { λ r. ⌜ ((k : ℕ) → r ≡ is.Within k → RestsWithin (now (table .entry)) (now (words .entry)) k) ⌝ }
 {
@@ -32,36 +32,36 @@ pub fn bound(table: &[u8], words: &[u8]) -> Bound
     let mut counts = [0u8; 256];
     let mut names = [0u64; 512];
     match read_table(table, &mut ranks, &mut counts, &mut names) {
-        Outcome::Refused(why) => Bound::Refused(why),
+        Outcome::Refused(why) => Figure::Refused(why),
         Outcome::Done => bound_under(table, &counts, words),
     }
 }
 
 // The answer, of a table that passes, with its numbers of children.
-fn bound_under(table: &[u8], counts: &[u8], words: &[u8]) -> Bound
+fn bound_under(table: &[u8], counts: &[u8], words: &[u8]) -> Figure
     requires { ⌜ Tabled (now table) (now counts) ⌝ }
     ensures { λ r. ⌜ r ≡ boundAnswer (now (table .entry)) (now (words .entry)) ⌝ }
 {
     let n = plan_count(table);
     if words.len() != 4 * n {
-        return Bound::Refused(Refusal::Lengths);
+        return Figure::Refused(Refusal::Lengths);
     }
     match check_words(table, n, counts, words) {
-        Outcome::Refused(why) => Bound::Refused(why),
+        Outcome::Refused(why) => Figure::Refused(why),
         Outcome::Done => figure(table, n, words),
     }
 }
 
 // The answer, of words that pass too.
-fn figure(table: &[u8], n: usize, words: &[u8]) -> Bound
+fn figure(table: &[u8], n: usize, words: &[u8]) -> Figure
     requires { ⌜ Asked (now table) n (now words) ⌝ }
     ensures { λ r. ⌜ r ≡ cond (premises (now (table .entry)) (now (words .entry)))
         (is.Within (mostSteps (planCount (now (table .entry))))) is.Unknown ⌝ }
 {
     if some_break(table, n, words) {
-        return Bound::Unknown;
+        return Figure::Unknown;
     }
-    Bound::Within(6 * n as u16)
+    Figure::Within(6 * n as u16)
 }
 
 // Whether some plan breaks a premise.

@@ -16,8 +16,8 @@ use Rattle.rules.specs.declared.Condition.the-variants.{Suspend, Reactivate}
 use Rattle.rules.specs.declared.Outcome.{Outcome}
 use Rattle.rules.specs.declared.Outcome.the-variants.{Done, Refused}
 use Rattle.rules.specs.declared.Rest.the-variants as rest
-use Rattle.rules.specs.declared.Bound.{Bound}
-use Rattle.rules.specs.declared.Bound.the-variants as bound
+use Rattle.rules.specs.declared.Figure.{Figure}
+use Rattle.rules.specs.declared.Figure.the-variants as figure
 use Rattle.rules.proofs.Below.{none-true}
 use Rattle.rules.proofs.Least.{nowhere, passed-over}
 use Rattle.demands.specs.Bound.{
@@ -82,14 +82,14 @@ six-steps-a-plan t w x y rule s budget done large =
     (run .steps, run .few, run .answer)
 
 -- what a call answers is kept
-pub bound-kept : (t w : List ℕ) (k : ℕ) → boundAnswer t w ≡ bound.Within k → RestsWithin t w k
+pub bound-kept : (t w : List ℕ) (k : ℕ) → boundAnswer t w ≡ figure.Within k → RestsWithin t w k
 unfolding boundAnswer
 bound-kept t w k e = go (boundCheck t w) (premises t w) refl refl e
   where
     go :
         (o : Outcome) (b : Bool) → boundCheck t w ≡ o → premises t w ≡ b
-        → elim o as (λ _. Bound) [ Done ↦ cond b (bound.Within (mostSteps (planCount t))) bound.Unknown | Refused why ↦ bound.Refused why ]
-        ≡ bound.Within k
+        → elim o as (λ _. Figure) [ Done ↦ cond b (figure.Within (mostSteps (planCount t))) figure.Unknown | Refused why ↦ figure.Refused why ]
+        ≡ figure.Within k
         → RestsWithin t w k
     go Done true x y h = let same : mostSteps (planCount t) ≡ k = cc in rw (sym same) (rests-within t w (rw y tt))
     go Done false x y h = let z : _≡_ {A = ℕ} 0 1 = cc in absurd (omega arith)

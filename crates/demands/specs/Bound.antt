@@ -15,8 +15,8 @@ use Rattle.rules.specs.declared.Refusal.the-variants.{Lengths}
 use Rattle.rules.specs.declared.Outcome.{Outcome}
 use Rattle.rules.specs.declared.Outcome.the-variants.{Done, Refused}
 use Rattle.rules.specs.declared.Rest.the-variants as rest
-use Rattle.rules.specs.declared.Bound.{Bound}
-use Rattle.rules.specs.declared.Bound.the-variants as bound
+use Rattle.rules.specs.declared.Figure.{Figure}
+use Rattle.rules.specs.declared.Figure.the-variants as figure
 
 -- the figure, of n plans: six steps for each
 abbrev pub mostSteps : ℕ → ℕ
@@ -60,10 +60,10 @@ module _ (t w : List ℕ) where
   boundCheck = tableCheck t andThen refuseIf (not (eqb (length w) (4 * planCount t))) Lengths andThen callWordsCheck t w
 
   -- its answer: where the premises hold the figure, else that none is known
-  unfoldable pub boundAnswer : Bound
+  unfoldable pub boundAnswer : Figure
   unfolding nobodyRetries nobodyHoldsBoth boundCheck
   boundAnswer =
       elim boundCheck [
-        | Done ↦ cond premises (bound.Within (mostSteps (planCount t))) bound.Unknown
-        | Refused why ↦ bound.Refused why
+        | Done ↦ cond premises (figure.Within (mostSteps (planCount t))) figure.Unknown
+        | Refused why ↦ figure.Refused why
       ]

@@ -64,8 +64,8 @@ use Rattle.rules.specs.Answers.{
 }
 use Rattle.rules.specs.declared.Rest.{Rest}
 use Rattle.rules.specs.declared.Rest.the-variants as rest
-use Rattle.rules.specs.declared.Bound.{Bound}
-use Rattle.rules.specs.declared.Bound.the-variants as bound
+use Rattle.rules.specs.declared.Figure.{Figure}
+use Rattle.rules.specs.declared.Figure.the-variants as figure
 use Rattle.demands.specs.Bound.{mostSteps, nobodyRetries, bothHold, nobodyHoldsBoth, boundCheck, boundAnswer}
 
 -- Tables: a version, a number of plans and their entries. A root with this body, flags, conditions and m; a plan with this parent and the
@@ -162,20 +162,20 @@ runs t w s shown rule =
 abbrev pub rounds : List ℕ → List ℕ → List ℕ → List (List ℕ) → ℕ → Bool
 rounds t w s shown rule = isDone (callCheck rule t s w) && path rule t w s (shown ++ (s ∷ []))
 
-isWithin : ℕ → Bound → Bool
-isWithin k (bound.Within j) = eqb j k
-isWithin k bound.Unknown = false
-isWithin k (bound.Refused why) = false
+isWithin : ℕ → Figure → Bool
+isWithin k (figure.Within j) = eqb j k
+isWithin k figure.Unknown = false
+isWithin k (figure.Refused why) = false
 
-isUnknown : Bound → Bool
-isUnknown (bound.Within j) = false
-isUnknown bound.Unknown = true
-isUnknown (bound.Refused why) = false
+isUnknown : Figure → Bool
+isUnknown (figure.Within j) = false
+isUnknown figure.Unknown = true
+isUnknown (figure.Refused why) = false
 
-isRefused : ℕ → ℕ → Bound → Bool
-isRefused number plan (bound.Within j) = false
-isRefused number plan bound.Unknown = false
-isRefused number plan (bound.Refused why) =
+isRefused : ℕ → ℕ → Figure → Bool
+isRefused number plan (figure.Within j) = false
+isRefused number plan figure.Unknown = false
+isRefused number plan (figure.Refused why) =
     eqb (place why .number) number && eqb (place why .step) 0 && eqb (place why .plan) plan
 
 unfoldable pub holdsIn : Row → Bool

@@ -188,8 +188,8 @@ fn lets_later(body: Body, again: bool, state: PlanState) -> bool
         Body::AnyOrder => true,
         Body::Unordered => true,
         Body::OnAbort => state.is(PlanState::Aborted),
-        Body::OnSuspend => state.was_activated(),
-        Body::OnAbortOrSuspend => state.was_activated(),
+        Body::OnSuspend => state.has_run(),
+        Body::OnAbortOrSuspend => state.has_run(),
         Body::IfThenElse => state.is(PlanState::Inactive),
     }
 }

@@ -9,7 +9,7 @@ use lib.Dec.{eqb, leb}
 use lib.ListN.{List·getD-eq-default}
 use borrow.Author.Tests.{ne-eqb}
 use Rattle.rules.specs.Bytes.{byteAt}
-use Rattle.rules.specs.States.{code, byCode, stateOf, stateAt, is, inSelection, inExecution, ended, wasActivated}
+use Rattle.rules.specs.States.{code, byCode, stateOf, stateAt, is, inSelection, inExecution, ended, hasRun}
 use Rattle.rules.specs.declared.PlanState.{PlanState}
 use Rattle.rules.specs.declared.PlanState.the-variants.{
   Inactive,
@@ -34,7 +34,7 @@ fromTo low high b = leb (code low) b && leb b (code high)
 pub groups :
     (state : PlanState)
     → (fromTo Considered Ready (code state) ≡ inSelection state) × (fromTo Activated Suspended (code state) ≡ inExecution state)
-    × (fromTo Completed Rejected (code state) ≡ ended state) × (fromTo Activated Aborted (code state) ≡ wasActivated state)
+    × (fromTo Completed Rejected (code state) ≡ ended state) × (fromTo Activated Aborted (code state) ≡ hasRun state)
 groups Inactive = (refl, refl, refl, refl)
 groups Considered = (refl, refl, refl, refl)
 groups Possible = (refl, refl, refl, refl)

@@ -8,7 +8,7 @@ use Rattle.rules.proofs.PlanState.is.Reads as is-it
 use Rattle.rules.proofs.PlanState.in_selection.Reads as in-selection
 use Rattle.rules.proofs.PlanState.in_execution.Reads as in-execution
 use Rattle.rules.proofs.PlanState.is_ended.Reads as is-ended
-use Rattle.rules.proofs.PlanState.was_activated.Reads as was-activated
+use Rattle.rules.proofs.PlanState.has_run.Reads as has-run
 use Rattle.rules.proofs.Body.is.Reads as is-body
 use Rattle.rules.proofs.Body.is_of_two.Reads as is-of-two
 use Rattle.rules.proofs.Condition.bit.Reads as bit
@@ -42,7 +42,7 @@ by-equation = record { once = λ κs a z z′ e e′ h h′. one-answer h h′ }
 -- the functions of a plan's state
 pub states-once :
     OneAnswer to-byte.Post × OneAnswer from-byte.Post × OneAnswer is-it.Post × OneAnswer in-selection.Post
-    × OneAnswer in-execution.Post × OneAnswer is-ended.Post × OneAnswer was-activated.Post
+    × OneAnswer in-execution.Post × OneAnswer is-ended.Post × OneAnswer has-run.Post
 states-once = (by-equation, by-equation, by-equation, by-equation, by-equation, by-equation, by-equation)
 
 -- those of a body, a condition, a bit and an input word

@@ -210,7 +210,7 @@ module _ (t : List ℕ) where
   unfoldable pub strayFirst : ℕ → Bool
   strayFirst p = not (isLeaf t p) && leb (nodeCount t) (entry t p .wait)
 
-  -- 22: node i breaks a rule by its own bytes, has an operand that is not above it or not there, or is not used exactly once
+  -- 22: node i breaks a rule by its own bytes, has an operand whose number is not higher or not there, or is not used exactly once
   unfoldable pub badNode : ℕ → Bool
   unfolding badBytes uses
   badNode i =

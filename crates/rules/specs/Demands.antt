@@ -12,11 +12,11 @@ use Rattle.rules.specs.declared.Body.{Body}
 use Rattle.rules.specs.declared.Body.the-variants.{Sequential, AnyOrder, OnAbort, IfThenElse}
 use Rattle.rules.specs.declared.PlanState.the-variants.{Considered, Activated, Aborted}
 
--- bodies of which at most one sub plan is in execution
+-- bodies of which at most one child is in execution
 abbrev pub oneAtATime : Body → Bool
 oneAtATime body = isBody Sequential body || isBody AnyOrder body || isBody OnAbort body || isBody IfThenElse body
 
--- p is a sub plan of q
+-- p is a child of q, in demand 3's words a sub plan
 pub record SubPlan (t : List ℕ) (q p : ℕ) : Type 0 where
   pub within : p < planCount t
   pub child : T (isChild t q p)
@@ -27,13 +27,13 @@ pub record Retried (t s shown : List ℕ) (a p : ℕ) : Type 0 where
   pub was : stateAt s a ≡ Aborted
   pub now : stateAt shown a ≡ Considered
 
--- of the sub plans of a sequential, any-order, on abort or if-then-else plan at most one is in execution
+-- of the children of a sequential, any-order, on abort or if-then-else plan at most one is in execution
 abbrev pub AtMostOne : List ℕ → List ℕ → Type 0
 AtMostOne t shown =
     (q c d : ℕ) → T (oneAtATime (bodyOf (entry t q))) → SubPlan t q c → SubPlan t q d → T (inExecution (stateAt shown c))
     → T (inExecution (stateAt shown d)) → c ≡ d
 
--- a sub plan is activated only while its parent is
+-- a child is Activated only while its parent is Activated
 abbrev pub OnlyWhileParent : List ℕ → List ℕ → Type 0
 OnlyWhileParent t shown = (q c : ℕ) → SubPlan t q c → stateAt shown c ≡ Activated → stateAt shown q ≡ Activated
 

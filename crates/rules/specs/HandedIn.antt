@@ -5,7 +5,7 @@ use mathlib.Core.List.{List}
 use lib.Dec.{ltb}
 use Rattle.rules.specs.Lists.{some}
 use Rattle.rules.specs.Bytes.{byteAt}
-use Rattle.rules.specs.States.{isCode, stateAt, is, inExecution, ended, wasActivated}
+use Rattle.rules.specs.States.{isCode, stateAt, is, inExecution, ended, hasRun}
 use Rattle.rules.specs.Table.{parent, entry, bodyOf, isBody, retryAborted, children}
 use Rattle.rules.specs.Step.{done}
 use Rattle.rules.specs.declared.Body.{Body}
@@ -55,8 +55,8 @@ letsLater Parallel again state = true
 letsLater AnyOrder again state = true
 letsLater Unordered again state = true
 letsLater OnAbort again state = is Aborted state
-letsLater OnSuspend again state = wasActivated state
-letsLater OnAbortOrSuspend again state = wasActivated state
+letsLater OnSuspend again state = hasRun state
+letsLater OnAbortOrSuspend again state = hasRun state
 letsLater IfThenElse again state = is Inactive state
 
 module _ (t s : List ℕ) where

@@ -33,14 +33,14 @@ module _ (t r : List ℕ) where
   abbrev pub stepCount : ℕ
   stepCount = (length r - 8) / stepSize
 
-  -- each step is a part of the record that starts in its middle
+  -- the words of step i, and the states after it, as parts of the record's bytes
   abbrev pub wordsOf : ℕ → List ℕ
   wordsOf i = take (4 * planCount t) (drop (8 + i * stepSize) r)
 
   abbrev pub statesOf : ℕ → List ℕ
   statesOf i = take (planCount t) (drop (8 + i * stepSize + 4 * planCount t) r)
 
-  -- the states before step i: the record starts with all plans inactive (demand 3)
+  -- the states before step i: the record starts with all plans Inactive (demand 3)
   abbrev pub statesBefore : ℕ → List ℕ
   statesBefore zero = replicate (planCount t) (code Inactive)
   statesBefore (suc i) = statesOf i

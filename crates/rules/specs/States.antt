@@ -64,6 +64,6 @@ inExecution state = oneOf (Activated ∷ Suspended ∷ []) state
 abbrev pub ended : PlanState → Bool
 ended state = oneOf (Completed ∷ Aborted ∷ Rejected ∷ []) state
 
--- 4, 5, 6 or 7: the plan was activated, and has been neither reset nor retried since
-abbrev pub wasActivated : PlanState → Bool
-wasActivated state = oneOf (Activated ∷ Suspended ∷ Completed ∷ Aborted ∷ []) state
+-- 4, 5, 6 or 7: the plan has been Activated since it was last Inactive or retried
+abbrev pub hasRun : PlanState → Bool
+hasRun state = oneOf (Activated ∷ Suspended ∷ Completed ∷ Aborted ∷ []) state

@@ -6,7 +6,7 @@ use mathlib.Core.List.{List, [], _∷_, _++_}
 use lib.ListN.{getD}
 use lib.Dec.{eqb}
 use Rattle.rules.specs.Lists.{all, some, first}
-use Rattle.rules.specs.States.{code, stateAt, oneOf, is, inSelection, inExecution, ended, wasActivated}
+use Rattle.rules.specs.States.{code, stateAt, oneOf, is, inSelection, inExecution, ended, hasRun}
 use Rattle.rules.specs.Table.{
   planCount,
   parent,
@@ -131,7 +131,7 @@ abbrev pub dueOfTwo : Body → ℕ → Bool → PlanState → PlanState → Bool
 dueOfTwo body x isFirst first second =
     cond (isBody IfThenElse body) (branchTaken x isFirst first second) (isFirst || badTurn body first)
 
--- both count as ended: an Inactive child does when its sibling has ended, except the second after an aborted first, on abort and on
+-- both count as ended: an Inactive child does when its sibling has ended, except the second beside an Aborted first, on abort and on
 -- abort or suspend
 abbrev pub bothEnded : Body → PlanState → PlanState → Bool
 bothEnded body first second =
@@ -147,7 +147,7 @@ module _ (t s : List ℕ) where
   abbrev pub stateOfSecond : ℕ → PlanState
   stateOfSecond q = stateAt s (secondChild t q)
 
-  -- by a rule, too many children of plan p are lost: wait-for fails of those that are not
+  -- by a rule, too many children of plan p are lost: wait-for does not hold of those that are not
   unfoldable pub tooManyLost : ℕ → ℕ → Bool
   tooManyLost rule p = not (waitFor t p (λ c. not (oneOf (lostStates rule (retryAborted (entry t p))) (stateAt s c))))
 
@@ -171,7 +171,7 @@ module _ (t s : List ℕ) where
   unfoldable pub gateOpen : ℕ → Bool
   gateOpen q =
       not (some (λ c. oneOf (Inactive ∷ Considered ∷ Possible ∷ []) (stateAt s c)) (children t q))
-      || some (λ c. wasActivated (stateAt s c)) (children t q)
+      || some (λ c. hasRun (stateAt s c)) (children t q)
 
   -- any-order: no child is in execution and, with retry-aborted, none is Aborted
   unfoldable pub mayActivate : ℕ → Bool

@@ -5,7 +5,7 @@ ghost use Prim.Native.Nat.{_<_};
 ghost use lib.Count.{ones};
 ghost use lib.Dec.{leb};
 ghost use Rattle.rules.specs.Bytes.{isSet};
-ghost use Rattle.rules.specs.States.{code, stateOf, is, inSelection, inExecution, ended, wasActivated};
+ghost use Rattle.rules.specs.States.{code, stateOf, is, inSelection, inExecution, ended, hasRun};
 ghost use Rattle.rules.specs.Table.{bodyNumber, bodyOf, isBody, ofTwo, retryAborted, waitForOptional, named, bitOf};
 ghost use Rattle.rules.specs.WaitFor.{joined, asks};
 ghost use Rattle.rules.specs.Answers.{isRule};
@@ -110,8 +110,8 @@ impl PlanState {
     }
 
     // Whether the plan is Activated, Suspended, Completed or Aborted.
-    pub fn was_activated(self) -> bool
-        ensures { λ r. ⌜ r ≡ wasActivated self ⌝ }
+    pub fn has_run(self) -> bool
+        ensures { λ r. ⌜ r ≡ hasRun self ⌝ }
     {
         let b = self.to_byte();
         (PlanState::ACTIVATED <= b) & (b <= PlanState::ABORTED)
@@ -421,7 +421,7 @@ pub enum Rest {
 }
 
 // What a question for the most steps to rest answers: so many, or that no figure is known.
-pub enum Bound {
+pub enum Figure {
     Within(u16),
     Unknown,
     Refused(Refusal),

@@ -35,8 +35,8 @@ use Rattle.rules.specs.declared.Refusal.the-variants.{
   OutputShort,
   NormalRange,
 }
-use Rattle.rules.specs.declared.Bound.{Bound}
-use Rattle.rules.specs.declared.Bound.the-variants as bound
+use Rattle.rules.specs.declared.Figure.{Figure}
+use Rattle.rules.specs.declared.Figure.the-variants as figure
 use Rattle.rules.proofs.Unique.{one-answer, by-equation, OneAnswer, OneAnswerLeaving}
 use Rattle.demands.proofs.Unique.{judged-once}
 use Rattle.time.proofs.Unique as time
@@ -158,7 +158,7 @@ pub no-refusal :
 no-refusal step plan why e = omega (arith, refusal-number why .0, refusal-number why .1)
 
 -- so an answer with number 0 and plan 0 is a figure
-pub figure-found : (b : Bound) (k : ℕ) → packedBound b ≡ packed 0 k 0 → b ≡ bound.Within k
-figure-found (bound.Within j) k e = ap bound.Within (omega (arith, e))
-figure-found bound.Unknown k e = absurd (omega (arith, e))
-figure-found (bound.Refused why) k e = absurd (no-refusal k 0 why (sym e))
+pub figure-found : (b : Figure) (k : ℕ) → packedBound b ≡ packed 0 k 0 → b ≡ figure.Within k
+figure-found (figure.Within j) k e = ap figure.Within (omega (arith, e))
+figure-found figure.Unknown k e = absurd (omega (arith, e))
+figure-found (figure.Refused why) k e = absurd (no-refusal k 0 why (sym e))

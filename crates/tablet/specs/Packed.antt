@@ -16,8 +16,8 @@ use Rattle.rules.specs.declared.Outcome.{Outcome}
 use Rattle.rules.specs.declared.Outcome.the-variants as outcome
 use Rattle.rules.specs.declared.Rest.{Rest}
 use Rattle.rules.specs.declared.Rest.the-variants as rest
-use Rattle.rules.specs.declared.Bound.{Bound}
-use Rattle.rules.specs.declared.Bound.the-variants as bound
+use Rattle.rules.specs.declared.Figure.{Figure}
+use Rattle.rules.specs.declared.Figure.the-variants as figure
 use Rattle.rules.specs.declared.Verdict.{Verdict}
 use Rattle.rules.specs.declared.Verdict.the-variants as verdict
 use Rattle.time.specs.Patterns as time
@@ -45,10 +45,10 @@ packedRest budget rest.Moving = packed 0 budget 1
 packedRest budget (rest.Refused why) = packedRefusal why
 
 -- the most steps to rest: a figure has number 0, plan 0 and the figure as its step; where none is known, number 0, plan 1 and step 0
-abbrev pub packedBound : Bound → ℕ
-packedBound (bound.Within k) = packed 0 k 0
-packedBound bound.Unknown = packed 0 0 1
-packedBound (bound.Refused why) = packedRefusal why
+abbrev pub packedBound : Figure → ℕ
+packedBound (figure.Within k) = packed 0 k 0
+packedBound figure.Unknown = packed 0 0 1
+packedBound (figure.Refused why) = packedRefusal why
 
 -- the checker: accepted has number 0, plan 0 and the number of steps as its step; a move the number of bytes written
 abbrev pub packedVerdict : Verdict → ℕ

@@ -10,8 +10,8 @@ ghost use Rattle.demands.specs.Bound.{RestsWithin, boundAnswer};
 ghost use Rattle.versions.specs.Versions.{checkTo1, checkTo2, inVersion1, inVersion2, moveAnswer, moveOutput};
 ghost use Rattle.tablet.specs.Packed.{packed, packedRefusal, packedOutcome, packedRest, packedBound, packedVerdict, Told};
 ghost use Rattle.tablet.specs.Packed.{packedJudgement, PatternTold, NormalTold, patternOf, withAnswer};
-use rules::Bound;
 use rules::Condition;
+use rules::Figure;
 use rules::Outcome;
 use rules::Pattern;
 use rules::Refusal;
@@ -186,13 +186,13 @@ fn pack_rest(rest: Rest, budget: u16) -> u64
 }
 
 // What a question for the most steps to rest answers.
-fn pack_bound(bound: Bound) -> u64
+fn pack_bound(bound: Figure) -> u64
     ensures { λ r. ⌜ r ≡ packedBound bound ⌝ }
 {
     match bound {
-        Bound::Within(k) => pack(0, k, 0),
-        Bound::Unknown => pack(0, 0, 1),
-        Bound::Refused(why) => pack_refusal(why),
+        Figure::Within(k) => pack(0, k, 0),
+        Figure::Unknown => pack(0, 0, 1),
+        Figure::Refused(why) => pack_refusal(why),
     }
 }
 

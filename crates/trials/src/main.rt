@@ -16,7 +16,7 @@ ghost use lib.ListN.{length};
 ghost use Rattle.io.specs.Counts.{Counts};
 use libc::STDIN_FILENO;
 use libc::STDOUT_FILENO;
-use rules::Bound;
+use rules::Figure;
 use rules::Outcome;
 use rules::Refusal;
 use rules::Rest;
@@ -342,14 +342,14 @@ fn print_rest(r: Rest) {
     }
 }
 
-fn print_bound(b: Bound) {
+fn print_bound(b: Figure) {
     match b {
-        Bound::Within(k) => {
+        Figure::Within(k) => {
             print(b"within");
             print_number(k as u64);
         }
-        Bound::Unknown => print(b"unknown"),
-        Bound::Refused(why) => print_refusal(why),
+        Figure::Unknown => print(b"unknown"),
+        Figure::Refused(why) => print_refusal(why),
     }
 }
 

@@ -27,6 +27,6 @@ lets-later-spec =
     (λ c. simp (c .enum-told4 .given .1))
     (λ c. simp (c .enum-told5 .given .1))
     (λ c. simp (c .before .enum-told6 .given .1, c .is .ensures))
-    (λ c. simp (c .before .enum-told7 .given .1, c .was-activated .ensures))
-    (λ c. simp (c .before .enum-told8 .given .1, c .was-activated2 .ensures))
+    (λ c. simp (c .before .enum-told7 .given .1, c .has-run .ensures))
+    (λ c. simp (c .before .enum-told8 .given .1, c .has-run2 .ensures))
     (λ c. simp (c .before .enum-told9 .given .1, c .is2 .ensures)))
