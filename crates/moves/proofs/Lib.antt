@@ -1,5 +1,3 @@
 -- Laws for the proofs of this crate and of those above it.
-pub mod ChildWords
-pub mod TwoChildren
 pub mod Moves
 pub mod Unique

@@ -2,18 +2,16 @@
 use Prim.Native.Nat.{ℕ, zero, suc, _+_, _*_, _≤_, _<_}
 use native.Mathlib.Omega.{arith}
 use mathlib.Core.Path.{_≡_, refl, sym}
-use mathlib.Core.Bool.{Bool, true, false, _&&_, _||_}
+use mathlib.Core.Bool.{Bool, false, _||_}
 use mathlib.Core.List.{List, [], _∷_}
 use denote.Enum.Declared.{tagOf}
 use types.Run.{OneOf, miss}
-use lib.Dec.{eqb-refl}
 use lib.ListN.{length}
 use Rattle.rules.specs.Bytes.{byteAt}
 use Rattle.rules.specs.States.{code, stateOf, stateAt, is, inSelection, ended}
 use Rattle.rules.specs.Table.{planCount, parent, entry}
 use Rattle.rules.specs.Words.{word}
-use Rattle.rules.specs.Demands.{SubPlan}
-use Rattle.rules.specs.Step.{move, tooManyLost, childrenComplete, orders, none, moveOf, ordersIf, newState}
+use Rattle.rules.specs.Step.{move, tooManyLost, childrenComplete, moveOf, newState}
 use Rattle.rules.specs.declared.PlanEntry.{PlanEntry}
 use Rattle.rules.specs.declared.Orders.{Orders}
 use Rattle.rules.specs.declared.PlanState.{PlanState}
@@ -30,12 +28,10 @@ use Rattle.rules.specs.declared.PlanState.the-variants.{
 }
 use Rattle.rules.proofs.PlanState as declared
 use Rattle.rules.proofs.Codes.{state-is}
-use Rattle.moves.specs.Parents.{parentState, ordersAt}
-use Rattle.moves.specs.StepFacts.{StepFacts, Names, MoveFacts}
-
-pub child-of : (t : List ℕ) (q p : ℕ) → 0 < p → p < planCount t → q ≡ parent t p → SubPlan t q p
-child-of t q zero h l e = absurd (omega arith)
-child-of t q (suc p) h l e = record { within = l; child = rw e (eqb-refl (parent t (suc p))) }
+use Rattle.family.specs.OrdersAt.{ordersAt}
+use Rattle.family.specs.StepFacts.{StepFacts, Names}
+use Rattle.moves.specs.Parents.{parentState}
+use Rattle.moves.specs.MoveFacts.{MoveFacts}
 
 -- the state of a child's parent, from what the code has in hand
 pub parent-of-child :
@@ -44,22 +40,6 @@ parent-of-child t states q zero h e = absurd (omega arith)
 parent-of-child t states q (suc p) h e = rw e (sym (state-is states (parent t (suc p))))
 
 module _ (t s w : List ℕ) (choice : ℕ → ℕ) where
-  -- orders, given whether the parent was and stays Activated
-  module _ (before after : PlanState) (q p : ℕ) where
-    pub orders-given :
-        (is Activated before && is Activated after) ≡ true → ordersIf t s w choice before after q p ≡ orders t s (word w q) choice q p
-    orders-given e = rw e
-
-    pub orders-none : (is Activated before && is Activated after) ≡ false → ordersIf t s w choice before after q p ≡ none
-    orders-none e = rw e
-
-  -- the orders of a child, from what the code has in hand
-  pub child-orders :
-      (before after : PlanState) (q p : ℕ) → 0 < p → q ≡ parent t p → before ≡ stateAt s q
-      → ordersIf t s w choice before after q p ≡ ordersAt t s w choice after p
-  child-orders before after q zero h e b = absurd (omega arith)
-  child-orders before after q (suc p) h e b = rw (b, e) refl
-
   -- the new state of a plan, the root's as of a child
   new-state :
       (rule : ℕ) (new : List ℕ) (p : ℕ)

@@ -1,5 +1,3 @@
--- What the contracts of this crate speak of beside document 01's definitions.
-pub mod ChildWords
-pub mod Tells
+-- What the contracts of this crate speak of beside document 01's definitions and those of crate family.
 pub mod Parents
-pub mod StepFacts
+pub mod MoveFacts

@@ -8,7 +8,7 @@ use lib.ListN.{length, getD}
 use Rattle.rules.specs.Table.{planCount, entry, bodyOf}
 use Rattle.rules.specs.Words.{word, pickOf}
 use Rattle.children.specs.Sets.{Rooted, Narrow}
-use Rattle.moves.specs.StepFacts.{picksOf}
+use Rattle.family.specs.StepFacts.{picksOf}
 use Rattle.lent.specs.WordBits.{unusedBits, wrongBits}
 use Rattle.demands.specs.Witness.{witness}
 

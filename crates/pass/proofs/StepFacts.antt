@@ -20,9 +20,9 @@ use Rattle.children.specs.Sets.{setBefore, setOf, Empty, Codes, Rooted, Narrow,
 use Rattle.children.proofs.Kin.{same-set, few-children}
 use Rattle.demands.proofs.PlanByPlan.{same-picks}
 use Rattle.demands.proofs.TwoChildren.{two-children}
-use Rattle.moves.specs.ChildWords.{ChildWords}
+use Rattle.family.specs.ChildWords.{ChildWords}
 use Rattle.formulas.proofs.Formed.{plans-within, waiting}
-use Rattle.moves.specs.StepFacts.{picksOf, StepFacts, Names}
+use Rattle.family.specs.StepFacts.{picksOf, StepFacts, Names}
 use Rattle.lent.specs.Calls.{MayMove}
 use Rattle.lent.proofs.Calls.{rooted}
 use Rattle.pass.specs.Taken.{Taken}

@@ -8,7 +8,7 @@ ghost use Rattle.rules.specs.Lists.{same};
 ghost use Rattle.rules.specs.Table.{planCount};
 ghost use Rattle.rules.specs.Step.{stepUnder};
 ghost use Rattle.children.specs.Sets.{Beyond};
-ghost use Rattle.moves.specs.StepFacts.{picksOf, StepFacts, Names};
+ghost use Rattle.family.specs.StepFacts.{picksOf, StepFacts, Names};
 ghost use Rattle.pass.specs.Taken.{Taken};
 use moves::next_state;
 use reading::word_at;

@@ -26,7 +26,7 @@ use Rattle.rules.proofs.Tree.{passes, tree}
 use Rattle.children.specs.Sets.{Surveyed}
 use Rattle.lowest.specs.Lowest.{Lowest}
 use Rattle.table.proofs.Reading.{found-at, found-none}
-use Rattle.moves.specs.StepFacts.{picksOf}
+use Rattle.family.specs.StepFacts.{picksOf}
 use Rattle.lent.specs.Calls.{MayMove}
 use Rattle.demands.specs.Witness.{witness}
 use Rattle.demands.proofs.Accepted.{table-done, before-passes}

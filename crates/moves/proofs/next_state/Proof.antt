@@ -26,9 +26,9 @@ use Rattle.rules.specs.declared.PlanState.the-variants.{
   Rejected,
 }
 use Rattle.rules.proofs.Codes.{state-is}
-use Rattle.moves.specs.Parents.{ordersAt}
-use Rattle.moves.specs.StepFacts.{picksOf}
-use Rattle.moves.specs.ChildWords.{ChildWords}
+use Rattle.family.specs.OrdersAt.{ordersAt}
+use Rattle.family.specs.StepFacts.{picksOf}
+use Rattle.family.specs.ChildWords.{ChildWords}
 use Rattle.moves.proofs.Moves.{as-move, over-stays}
 use Rattle.moves.proofs.next_state.Statement.{statement}
 use Rattle.moves.proofs.next_state.Tie as tie

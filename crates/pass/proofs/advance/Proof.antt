@@ -9,7 +9,7 @@ use Rattle.rules.specs.States.{code}
 use Rattle.rules.specs.Table.{planCount}
 use Rattle.rules.specs.Step.{chosen, stepFirst}
 use Rattle.children.specs.Sets.{Beyond}
-use Rattle.moves.specs.StepFacts.{picksOf}
+use Rattle.family.specs.StepFacts.{picksOf}
 use Rattle.moves.proofs.Moves.{move-facts}
 use Rattle.pass.proofs.Turns.{none-moved, one-more-moved, all-moved, none-written, one-more-written}
 use Rattle.pass.proofs.advance.Statement.{statement}

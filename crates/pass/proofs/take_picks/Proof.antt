@@ -9,7 +9,7 @@ use lib.ListN.{getD, set}
 use lib.Seq.{getD-set-same, getD-set-other}
 use Rattle.rules.specs.Words.{word, pickOf}
 use Rattle.children.specs.Sets.{Beyond}
-use Rattle.moves.specs.StepFacts.{picksOf}
+use Rattle.family.specs.StepFacts.{picksOf}
 use Rattle.pass.proofs.Turns.{none-written, one-more-written}
 use Rattle.pass.proofs.take_picks.Statement.{statement}
 use Rattle.pass.proofs.take_picks.Tie as tie

@@ -12,7 +12,7 @@ use Rattle.rules.specs.Lists.{same}
 use Rattle.rules.specs.Step.{stepUnder, step}
 use Rattle.rules.proofs.Tree.{passes, tree}
 use Rattle.children.specs.Sets.{Beyond, Surveyed}
-use Rattle.moves.specs.StepFacts.{picksOf}
+use Rattle.family.specs.StepFacts.{picksOf}
 use Rattle.lent.specs.Calls.{MayMove}
 use Rattle.pass.specs.Taken.{Taken}
 use Rattle.pass.proofs.StepFacts.{known-names, may-survey, step-facts, taken-small, taken-step, may-resurvey, surveyed-part}
