@@ -10,7 +10,7 @@ use Rattle.rules.specs.Program.{tableLength, Answered, judged}
 use Rattle.rules.specs.declared.Refusal.{Refusal}
 use Rattle.rules.specs.declared.Verdict.{Verdict}
 use Rattle.rules.specs.declared.Outcome.the-variants.{Done, Refused}
-use Rattle.text.proofs.Inputs.{to-end}
+use borrow.Rule.Slice.PartAt.{part-to-end}
 
 module _ (input : List ℕ) where
   pub all-of-refused : (why : Refusal) → headerCheck input ≡ Refused why → tableLength input ≡ length input
@@ -31,4 +31,4 @@ module _ (input : List ℕ) where
       {v : Verdict} (k : ℕ) → k ≡ tableLength input → length input ≤ 65536
       → Judged 2 (take k input) (take (length input - k) (drop k input)) v
       → Answered input v
-  answers k e l j = judged l (rw (to-end input k, e) at j)
+  answers k e l j = judged l (rw (part-to-end input k, e) at j)

@@ -1,5 +1,4 @@
 -- Laws for the proofs of this crate, and that its answer is one.
-pub mod Scanning
 pub mod Splitting
 pub mod Turns
 pub mod Unique

@@ -6,9 +6,9 @@ use mathlib.Core.Path.{_≡_, refl, ap}
 use mathlib.Core.List.{List, [], _∷_}
 use lib.Dec.{eqb}
 use lib.ListN.{length, take, drop}
-use Rattle.aptime.specs.Words.{run}
+use Rattle.statements.specs.Words.{run}
+use Rattle.statements.specs.declared.Stretch.the-variants.{Line}
 use Rattle.aptime.specs.Lines.{onto, lines}
-use Rattle.aptime.specs.declared.Stretch.the-variants.{Line}
 
 -- what is shown of each text that is not empty
 FirstLine : List ℕ → Type 0

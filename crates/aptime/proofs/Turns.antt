@@ -8,11 +8,12 @@ use mathlib.Core.List.{List, [], _∷_, _++_}
 use lib.Dec.{eqb}
 use lib.ListN.{length, take, drop, getD, length-drop, drop-of-length-le}
 use lib.Seq.{drop-drop}
-use Rattle.aptime.specs.Words.{run}
-use Rattle.aptime.specs.Lines.{lines, says, checked, toldBy, sampleBy, unsaid, Said, wrong, whole, readFrom}
-use Rattle.aptime.specs.declared.Stretch.the-variants.{Line}
-use Rattle.aptime.specs.declared.Fault.{Fault}
-use Rattle.aptime.specs.declared.Fault.the-variants.{NotAsked}
+use Rattle.statements.specs.Words.{run}
+use Rattle.statements.specs.Statements.{says}
+use Rattle.statements.specs.declared.Stretch.the-variants.{Line}
+use Rattle.statements.specs.declared.Fault.{Fault}
+use Rattle.statements.specs.declared.Fault.the-variants.{NotAsked}
+use Rattle.aptime.specs.Lines.{lines, checked, toldBy, sampleBy, unsaid, wrong, whole, readFrom}
 use Rattle.aptime.specs.declared.Check.the-variants.{Fine, Faulty}
 use Rattle.aptime.proofs.Splitting.{first-line}
 

@@ -10,9 +10,10 @@ use lib.ListN.{take}
 use Rattle.rules.specs.declared.Outcome.{Outcome}
 use Rattle.time.specs.declared.Judgement.{Judgement}
 use Rattle.time.proofs.Unique.{judged-once, normalised-once}
+use Rattle.printing.specs.Printing.{wrongText, answerText}
+use Rattle.statements.specs.declared.Fault.{Fault}
 use Rattle.aptime.specs.Lines.{Said, wrong, whole}
-use Rattle.aptime.specs.Printing.{numbersOf, askedOf, wrongText, answerText, Answered, Printed, tooLong, faulty, answered}
-use Rattle.aptime.specs.declared.Fault.{Fault}
+use Rattle.aptime.specs.Printed.{numbersOf, askedOf, Answered, Printed, tooLong, faulty, answered}
 use Rattle.aptime.proofs.report.Reads as report
 
 -- a text says one thing

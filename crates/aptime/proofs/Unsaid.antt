@@ -1,5 +1,5 @@
 -- The number that stands where nothing was said is never said: a statement that was made is known as made. Assumes nothing.
-use Prim.Native.Nat.{ℕ, suc, _+_, _*_, _-_, _^_, _≤_, _<_}
+use Prim.Native.Nat.{ℕ, suc, _+_, _*_, _-_, _^_, _<_}
 use native.Mathlib.Nat.{pow-le-pow-right}
 use native.Mathlib.Omega.{arith}
 use mathlib.Core.Bool.{Bool, true, false, cond}
@@ -7,13 +7,13 @@ use mathlib.Core.Path.{_≡_, refl, ap}
 use mathlib.Core.List.{List, [], _∷_}
 use lib.Dec.{eqb, ltb}
 use lib.ListN.{length, drop, getD}
-use borrow.Author.Tests.{ltb-false, eqb-false}
+use borrow.Author.Tests.{ltb-false}
 use Rattle.rules.specs.Bytes.{text}
-use Rattle.aptime.specs.Words.{same, noBound, isDigit, natural, unsigned, negative, number, bound}
+use Rattle.statements.specs.Words.{same, isDigit, natural, unsigned, negative, number, bound}
+use Rattle.statements.specs.declared.Value.{Value}
+use Rattle.statements.specs.declared.Value.the-variants.{Missing, Is}
+use Rattle.statements.proofs.Scanning.{is-digit, next-power}
 use Rattle.aptime.specs.Lines.{unsaid}
-use Rattle.aptime.specs.declared.Value.{Value}
-use Rattle.aptime.specs.declared.Value.the-variants.{Missing, Is}
-use Rattle.aptime.proofs.Scanning.{is-digit, next-power}
 
 -- a word that is no number is none
 missing : {x : ℕ} → Missing ≡ Is x → ⊥

@@ -1,7 +1,6 @@
--- What a text for `aptime` says (Words, Lines), what is printed for it (Printing), examples of both (Cases); and, for the contracts inside
--- the crate, the steps of the reading (Steps).
-pub mod Words
+-- What a text for `aptime` says (Lines), what is printed for it (Printed), examples of both (Cases); and, for the contracts inside the
+-- crate, the steps of the reading (Steps).
 pub mod Lines
-pub mod Printing
+pub mod Printed
 pub mod Cases
 pub mod Steps

@@ -4,8 +4,9 @@ use mathlib.Core.Path.{_≡_}
 use mathlib.Core.List.{List, [], _++_}
 use lib.ListN.{take}
 use Rattle.io.specs.Counts.{Counts}
-use Rattle.aptime.specs.Lines.{lines, says, checked, toldBy, sampleBy, wrong, whole, readFrom}
-use Rattle.aptime.specs.declared.Saying.{Saying}
+use Rattle.statements.specs.Statements.{says}
+use Rattle.statements.specs.declared.Saying.{Saying}
+use Rattle.aptime.specs.Lines.{lines, checked, toldBy, sampleBy, wrong, whole, readFrom}
 use Rattle.aptime.specs.declared.Check.{Check}
 use Rattle.aptime.specs.declared.Check.the-variants.{Fine, Faulty}
 use Rattle.aptime.specs.declared.Taken.{Taken}

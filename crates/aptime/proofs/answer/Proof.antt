@@ -3,9 +3,10 @@ use Prim.Native.Nat.{ℕ}
 use mathlib.Core.Path.{subst}
 use mathlib.Core.List.{List}
 use denote.Ref.{now}
+use Rattle.output.proofs.Pieces.{from-start}
 use Rattle.time.specs.Normal.{Normalised}
 use Rattle.time.specs.Patterns.{Judged}
-use Rattle.aptime.specs.Printing.{askedOf}
+use Rattle.aptime.specs.Printed.{askedOf}
 use borrow.Author.Needs.{needs}
 use Rattle.aptime.proofs.answer.Statement.{statement}
 use Rattle.aptime.proofs.answer.Tie as tie
@@ -30,7 +31,7 @@ returns c =
         outcome = outcome;
         normal = normal;
         normalised = subst (λ (n : List ℕ). Normalised n outcome normal) numbers (at-normalise .normalise .ensures);
-        printed = put .1;
+        printed = from-start (put .1);
       },
     )
 

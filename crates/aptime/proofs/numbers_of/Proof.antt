@@ -1,5 +1,5 @@
 -- `numbers_of` meets its contract: place by place. Assumes nothing.
-use Rattle.aptime.specs.Printing.{numbersOf}
+use Rattle.aptime.specs.Printed.{numbersOf}
 use borrow.Author.Needs.{needs}
 use Rattle.aptime.proofs.numbers_of.Statement.{statement}
 use Rattle.aptime.proofs.numbers_of.Tie as tie

@@ -6,7 +6,7 @@ use denote.Ref.{now}
 use lib.ListN.{length, take, drop, length-drop}
 use lib.Seq.{length-take-le}
 use borrow.Author.Tests.{eq-eqb, ne-eqb}
-use Rattle.text.proofs.Inputs.{to-end}
+use borrow.Rule.Slice.PartAt.{part-to-end}
 use Rattle.aptime.specs.Lines.{lines, readFrom}
 use Rattle.aptime.proofs.Turns.{again, stops, not-asked, all-read}
 use borrow.Author.Needs.{needs}
@@ -35,7 +35,7 @@ fits :
 fits c =
     let at-loop = c .before .before .before in
     let input = now (at-loop .before .before .before .before .args .input) in
-    omega (arith, c .run .ensures .1, ap length (to-end input (at-loop .loop .at)), length-drop (at-loop .loop .at) input)
+    omega (arith, c .run .ensures .1, ap length (part-to-end input (at-loop .loop .at)), length-drop (at-loop .loop .at) input)
 
 loop-holds : tie.Need-loop-holds Inv-loop μ-loop
 loop-holds c =
@@ -50,7 +50,7 @@ returns c =
     sym (at-loop .loop .inv .6)
     ∙ stops (now (start .args .input)) _ (at-loop .loop .told) (take (at-loop .loop .count) (at-loop .loop .samples))
     (at-loop .loop .line) (at-loop .loop .at) (at-run .run .result) (omega arith)
-    (to-end (now (start .args .input)) (at-loop .loop .at)) (at-run .run .ensures .0)
+    (part-to-end (now (start .args .input)) (at-loop .loop .at)) (at-run .run .ensures .0)
     (rw (c .before .fault .given .1) at (at-take-line .take-line .ensures))
 
 add-at-2 : tie.Need-add-at-2 Inv-loop μ-loop
@@ -87,7 +87,7 @@ loop-again c =
       omega (arith, at-samples .samples .given, at-loop .loop .inv .5),
       again (now (start .args .input)) _ (at-loop .loop .told) (take (at-loop .loop .count) (at-loop .loop .samples))
           (at-loop .loop .line) (at-loop .loop .at) (at-run .run .result) (omega arith)
-          (to-end (now (start .args .input)) (at-loop .loop .at)) (at-run .run .ensures .0) (took .0) (took .1) (took .3)
+          (part-to-end (now (start .args .input)) (at-loop .loop .at)) (at-run .run .ensures .0) (took .0) (took .1) (took .3)
           ∙ at-loop .loop .inv .6,
     )
 

@@ -2,7 +2,7 @@
 use mathlib.Core.Path.{sym}
 use lib.Seq.{length-take-le}
 use Rattle.output.proofs.Pieces.{from-start}
-use Rattle.aptime.specs.Printing.{tooLong}
+use Rattle.aptime.specs.Printed.{tooLong}
 use borrow.Author.Needs.{needs}
 use native.Mathlib.Omega.{arith}
 use Rattle.aptime.proofs.report.Statement.{statement}

@@ -4,8 +4,9 @@ use mathlib.Core.Path.{sym, ap, _∙_}
 use mathlib.Core.List.{List, []}
 use denote.Ref.{now}
 use lib.ListN.{length}
+use Rattle.output.proofs.Pieces.{from-start}
 use Rattle.aptime.specs.Lines.{lines, readFrom, saidIn}
-use Rattle.aptime.specs.Printing.{faulty, answered}
+use Rattle.aptime.specs.Printed.{faulty, answered}
 use borrow.Author.Needs.{needs}
 use native.Mathlib.Omega.{arith}
 use Rattle.aptime.proofs.respond.Statement.{statement}
@@ -37,7 +38,7 @@ returns c =
     let put = c .before .before .put-wrong .ensures in (
       put .0,
       faulty (start .pre .0) (ap (λ (t : List ℕ). readFrom 1 t [] (lines (now (start .args .input)))) (sym (start .pre .1)) ∙ told)
-          (put .1),
+          (from-start (put .1)),
     )
 
 returns-2 : tie.Need-returns-2

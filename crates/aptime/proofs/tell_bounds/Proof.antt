@@ -7,11 +7,11 @@ use Rattle.aptime.proofs.tell_bounds.Statement.{statement}
 use Rattle.aptime.proofs.tell_bounds.Tie as tie
 
 returns : tie.Need-returns
-returns c = simp (← c .before .before .place .ensures .0, ne-eqb _ _ (c .if1 .taken))
+returns c = simp (← c .before .before .pair-place .ensures .0, ne-eqb _ _ (c .if1 .taken))
 
 returns-2 : tie.Need-returns-2
 returns-2 c =
-    (simp (← c .before .before .place .ensures .0, eq-eqb _ _ (c .if1 .left)), simp (← c .before .before .place .ensures .0))
+    (simp (← c .before .before .pair-place .ensures .0, eq-eqb _ _ (c .if1 .left)), simp (← c .before .before .pair-place .ensures .0))
 
 pub tell-bounds-spec : {M : Type 1} → statement M
 tell-bounds-spec =

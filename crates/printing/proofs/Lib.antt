@@ -1,0 +1,2 @@
+-- That the answers of this crate are one.
+pub mod Unique
