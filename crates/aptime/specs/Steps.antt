@@ -1,4 +1,5 @@
--- What the contracts of the functions that read speak of: a step of the reading, in the words of Lines. Assumes nothing.
+-- What the contracts of the functions that read speak of: a step of the reading, in the words of Lines. Nobody has to believe
+-- this. Assumes nothing.
 use Prim.Native.Nat.{ℕ, _+_, _≤_}
 use mathlib.Core.Path.{_≡_}
 use mathlib.Core.List.{List, [], _++_}

@@ -1,3 +1,3 @@
--- What is printed (Printing), and examples of it (Cases).
+-- What `aptime` prints: what a reader must believe of it (Printing), and examples (Cases).
 pub mod Printing
 pub mod Cases
