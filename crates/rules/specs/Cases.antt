@@ -375,7 +375,7 @@ unmarked =
 
 -- rows of our own: moves
 ourMoves : List Row
-unfolding T1 T1With sequential parallel unordered chain words idle
+unfolding T1 T1With sequential parallel unordered chain three words idle
 ourMoves =
     -- two of the 'Errors a good programmer makes' that no row above refuses: a Suspended plan that completes, and old endings kept
     -- under a retried plan
@@ -404,8 +404,30 @@ ourMoves =
     ∷ rowStep both parallel 433 idle 444
     ∷ rowStep both parallel 443 idle 444
     ∷ rowStep both parallel 473 idle 474
+    -- and of three children, beside one that is Considered: open beside one that is 4, 5, 6 or 7, shut beside a Rejected one
+    ∷ rowChooses (three 2) 4431 0 0 4442
+    ∷ rowChooses (three 2) 4531 0 0 4442
+    ∷ rowChooses (three 2) 4631 0 0 4642
+    ∷ rowChooses (three 2) 4731 0 0 4742
+    ∷ rowChooses (three 2) 4831 0 0 4832
     -- unordered: every child at once
     ∷ rowStep both unordered 430 idle 441
+    -- setup of plan 1: not satisfiable, still satisfiable, satisfied; it is asked by its own bits, not by the filter's
+    ∷ rowStep both (T1With 0 0 2 34) 422 idle 483
+    ∷ rowStep both (T1With 0 0 2 34) 422 (words 0 128 0) 423
+    ∷ rowStep both (T1With 0 0 2 34) 422 (words 0 130 0) 433
+    ∷ rowStep both (T1With 0 0 2 34) 422 (words 0 64 0) 483
+    -- abort goes before suspend, and is felt by a Suspended plan, before its reactivate
+    ∷ rowStep both (T1With 0 20 2 32) 443 (words 20 0 0) 778
+    ∷ rowStep both (T1With 0 20 2 32) 553 (words 16 0 0) 778
+    -- filter of plan 1, overridable: still satisfiable where no bit says so, and holds once overridden; manual: neither of the two, and
+    -- satisfied it holds with its trigger only. Setup, overridable
+    ∷ rowStep both (take 22 (T1With 0 0 2 33) ++ 1 ∷ drop 23 (T1With 0 0 2 33)) 411 idle 412
+    ∷ rowStep both (take 22 (T1With 0 0 2 33) ++ 1 ∷ drop 23 (T1With 0 0 2 33)) 411 (words 0 (2 ^ 14) 0) 422
+    ∷ rowStep both (take 21 (T1With 0 0 2 33) ++ 1 ∷ drop 22 (T1With 0 0 2 33)) 411 idle 482
+    ∷ rowStep both (take 21 (T1With 0 0 2 33) ++ 1 ∷ drop 22 (T1With 0 0 2 33)) 411 (words 0 65 0) 412
+    ∷ rowStep both (take 21 (T1With 0 0 2 33) ++ 1 ∷ drop 22 (T1With 0 0 2 33)) 411 (words 0 (65 + 2 ^ 8) 0) 422
+    ∷ rowStep both (take 22 (T1With 0 0 2 34) ++ 2 ∷ drop 23 (T1With 0 0 2 34)) 422 idle 423
     ∷ []
 
 -- the same rows for each of a few bodies
