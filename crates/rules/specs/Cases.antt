@@ -591,17 +591,26 @@ choices =
 
 -- rows of our own: refusals
 ourRefusals : List Row
-unfolding T1 T1With T1Of sequential crossed star words idle
+unfolding T1 T1With T1Of sequential crossed star tableOf leaves words idle
 ourRefusals =
     -- 1 to 3, 6: too short, another mark, another version, a parent that is no ancestor of the plan before
     rowRefuses both (take 7 T1) 000 idle 1 0
     ∷ rowRefuses both (0 ∷ drop 1 T1) 000 idle 2 0
     ∷ rowRefuses both (take 3 T1 ++ 3 ∷ drop 4 T1) 000 idle 3 0
     ∷ rowRefuses both crossed 000 idle 6 3
+    -- 3: the version's high byte. 4: no plan, the last byte of the header; 256 plans pass that. 6: a root with a parent
+    ∷ rowRefuses both (take 4 T1 ++ 1 ∷ drop 5 T1) 000 idle 3 0
+    ∷ rowRefuses both (take 5 T1 ++ 0 ∷ drop 6 T1) 000 idle 4 0
+    ∷ rowRefuses both (take 7 T1 ++ 1 ∷ drop 8 T1) 000 idle 4 0
+    ∷ rowRefuses both (take 5 T1 ++ 0 ∷ 1 ∷ drop 7 T1) 000 idle 5 0
+    ∷ rowRefuses both (take 8 T1 ++ 0 ∷ 0 ∷ drop 10 T1) 000 idle 6 0
     -- 7: a body, an unused flag, an unused condition. 8: a leaf with children, a root that is named
     ∷ rowRefuses both (T1Of 9 0 0 2 32) 000 idle 7 0
     ∷ rowRefuses both (T1With 8 0 2 32) 000 idle 7 0
     ∷ rowRefuses both (T1With 0 64 2 32) 000 idle 7 0
+    -- 7, of plan 1: an unused bit of what is manual, and of what is overridable
+    ∷ rowRefuses both (take 21 T1 ++ 64 ∷ drop 22 T1) 000 idle 7 1
+    ∷ rowRefuses both (take 22 T1 ++ 64 ∷ drop 23 T1) 000 idle 7 1
     ∷ rowRefuses both (T1Of 0 0 0 0 32) 000 idle 8 0
     ∷ rowRefuses both (T1With 4 0 2 32) 000 idle 8 0
     -- 8, of plan 1: an absent condition that is manual, one that is overridable; a leaf with retry-aborted, one with a wait number
@@ -609,8 +618,14 @@ ourRefusals =
     ∷ rowRefuses both (take 22 T1 ++ 16 ∷ drop 23 T1) 000 idle 8 1
     ∷ rowRefuses both (take 19 T1 ++ 5 ∷ drop 20 T1) 000 idle 8 1
     ∷ rowRefuses both (take 23 T1 ++ 1 ∷ drop 24 T1) 000 idle 8 1
-    -- 10: more plans than states
+    -- and one with wait-for-optional; a plan that is no leaf and has no children; on abort with one child
+    ∷ rowRefuses both (take 19 T1 ++ 6 ∷ drop 20 T1) 000 idle 8 1
+    ∷ rowRefuses both (take 18 T1 ++ 4 ∷ drop 19 T1) 000 idle 8 1
+    ∷ rowRefuses both (tableOf 2 5 0 0x20 (leaves 0x20 1)) 000 idle 8 0
+    -- 10: more plans than states; that alone; a word too few alone
     ∷ rowRefuses both (star 3) 000 idle 10 0
+    ∷ rowRefuses both (star 3) 000 (idle ++ 0 ∷ 0 ∷ 0 ∷ 0 ∷ []) 10 0
+    ∷ rowRefuses both T1 000 (take 8 idle) 10 0
     -- 11: no code; a child that does not suit a parent that is Inactive, Rejected, Completed or Suspended; a child that a sequential
     -- plan has not come to
     ∷ rowRefuses both T1 409 idle 11 2
@@ -618,12 +633,22 @@ ourRefusals =
     ∷ rowRefuses both T1 866 idle 11 1
     ∷ rowRefuses both T1 613 idle 11 1
     ∷ rowRefuses both T1 543 idle 11 1
+    -- 11: the root's own byte; a child in selection or execution under an Aborted plan; one that has ended under a plan in selection
+    ∷ rowRefuses both T1 900 idle 11 0
+    ∷ rowRefuses both T1 753 idle 11 1
+    ∷ rowRefuses both T1 730 idle 11 1
+    ∷ rowRefuses both T1 160 idle 11 1
+    ∷ rowRefuses both T1 260 idle 11 1
+    ∷ rowRefuses both T1 360 idle 11 1
     ∷ rowRefuses both (sequential 0 1) 403 idle 11 2
     -- 12: unused bits, setup satisfied but not satisfiable, a pick of a leaf
     ∷ rowRefuses both T1 000 (words (2 ^ 20) 0 0) 12 0
     ∷ rowRefuses both T1 000 (words 0 (2 ^ 30) 0) 12 1
     ∷ rowRefuses both T1 000 (words 0 0 2) 12 2
     ∷ rowRefuses both T1 000 (words 0 (2 ^ 24) 0) 12 1
+    -- the highest bit, and a pick of which only the highest bit is set
+    ∷ rowRefuses both T1 000 (words 0 (2 ^ 31) 0) 12 1
+    ∷ rowRefuses both T1 000 (words (2 ^ 29) 0 0) 12 0
     ∷ []
 
 -- rows of our own: sub trees and lines
