@@ -653,13 +653,16 @@ ourRefusals =
 
 -- rows of our own: sub trees and lines
 ourShows : List Row
-unfolding T1 T1With chain
+unfolding T1 T1With chain star
 ourShows =
     -- sub trees: of a root, of the middle of the chain, of a leaf with a sibling after it, of no plan
     rowShows chain 476 0 (4 ∷ 7 ∷ 6 ∷ [])
     ∷ rowShows chain 476 1 (7 ∷ 6 ∷ [])
     ∷ rowShows T1 443 1 (4 ∷ [])
     ∷ rowShows chain 476 3 []
+    -- nor of fewer states than plans, nor under a table that is refused
+    ∷ rowShows (star 3) 443 1 []
+    ∷ rowShows (T1With 0 0 3 32) 443 1 []
     ∷ rowPrints 256 (verdict.Accepted 65535) "accepted 256 65535\n"
     ∷ rowPrints 1 (verdict.Accepted 0) "accepted 1 0\n"
     ∷ []
@@ -753,13 +756,16 @@ badFormulas =
     ∷ rowRefuses both (T1Waits 4 1 (node 6 0 0)) 000 idle 8 0
     ∷ []
 
--- where the table of an input ends: behind its nodes; at the end of the input where nodes, or a byte of their number, are missing
+-- where the table of an input ends: behind its nodes; at the end of the input where nodes, or a byte of their number, are missing; behind
+-- its plans; at the end of the input where the header is refused, here by 4
 ourEnds : List Row
-unfolding T1 T1Waits node
+unfolding T1 T1With T1Waits node
 ourEnds =
     rowEnds (T1Waits 0 1 (node 5 0 0) ++ 65 ∷ []) 38
     ∷ rowEnds (T1Waits 0 2 (node 5 0 0)) 38
     ∷ rowEnds (take 3 T1 ++ 2 ∷ drop 4 T1 ++ 7 ∷ []) 33
+    ∷ rowEnds (T1 ++ 65 ∷ []) 32
+    ∷ rowEnds (take 7 T1 ++ 1 ∷ drop 8 T1 ++ 65 ∷ []) 33
     ∷ []
 
 -- document 02 (iii): what is known of a pattern, in a word's own bits, set and cleared, all others as they were
