@@ -249,6 +249,8 @@ pub data Row : Type 0 where
   -- a table of a root and three leaves that passes, and whether wait-for of the root holds (1) or not (0) of each set of its children:
   -- none, 0, 1, 0 and 1, 2, 0 and 2, 1 and 2, all
   rowWaits : List ℕ → String → Row
+  -- the same, of a table whose checks would take long and are not asked for
+  rowDeep : List ℕ → String → Row
   -- how many bytes of the program's input are its table
   rowEnds : List ℕ → ℕ → Row
   -- a pattern, satisfied and satisfiable or not, put into a word
@@ -307,6 +309,7 @@ holdsIn (rowPrints n v told) = same (line n v) (text told)
 holdsIn (rowWaits t told) =
     isAccepted 4 (tableVerdict t)
     && same (map (λ set. cond (waitFor t 0 (λ c. isSet (c - 1) set)) 49 48) (0 ∷ 1 ∷ 2 ∷ 3 ∷ 4 ∷ 5 ∷ 6 ∷ 7 ∷ [])) (text told)
+holdsIn (rowDeep t told) = same (map (λ set. cond (waitFor t 0 (λ c. isSet (c - 1) set)) 49 48) (0 ∷ 1 ∷ 2 ∷ 3 ∷ [])) (text told)
 holdsIn (rowEnds input k) = eqb (tableLength input) k
 holdsIn (rowPuts p s t before after) = eqb (withPattern p s t before) after
 
@@ -667,9 +670,15 @@ ourShows =
     ∷ rowPrints 1 (verdict.Accepted 0) "accepted 1 0\n"
     ∷ []
 
+-- k nodes from node i on, each 'not' the next
+nots : ℕ → ℕ → List ℕ
+unfolding node
+nots zero i = []
+nots (suc k) i = node 1 (suc i) 0 ++ nots k (suc i)
+
 -- document 02 (v): each kind, and kinds in one another
 ourFormulas : List Row
-unfolding trio node
+unfolding trio node nots
 ourFormulas =
     rowWaits (trio 1 (node 0 0 0)) "01010101"
     ∷ rowWaits (trio 1 (node 0 1 0)) "00110011"
@@ -688,6 +697,9 @@ ourFormulas =
     ∷ rowWaits (trio 5 (node 4 1 4 ++ node 4 2 3 ++ node 0 0 0 ++ node 0 1 0 ++ node 0 2 0)) "01101001"
     ∷ rowWaits (trio 6 (node 2 1 4 ++ node 4 2 3 ++ node 0 0 0 ++ node 0 1 0 ++ node 1 5 0 ++ node 0 2 0)) "01100000"
     ∷ rowWaits (trio 4 (node 2 1 2 ++ node 5 1 0 ++ node 1 3 0 ++ node 0 2 0)) "01110000"
+    -- 256 nodes, as many as there may be, each under the one before: 255 times 'not', and child 0; and 254 times 'not', and child 1
+    ∷ rowDeep (trio 256 (nots 255 0 ++ node 0 0 0)) "1010"
+    ∷ rowDeep (trio 255 (nots 254 0 ++ node 0 1 0)) "0011"
     ∷ []
 
 -- completion and loss by a formula: 'and' waits for both children, 'or' for one. 'not child 0' is lost while child 0 is neither Rejected
