@@ -58,11 +58,15 @@ use Rattle.rules.specs.Answers.{
   tableCheck,
   tableVerdict,
   badWord,
+  badRecordWord,
   callCheck,
   stepAnswer,
   stepStates,
   runAnswer,
   runStates,
+  formCheck,
+  wordsCheck,
+  recordCheck,
 }
 use Rattle.rules.specs.SubTree.{lastDescendant, subTree}
 use Rattle.rules.specs.Program.{decimalTo, line, tableLength}
@@ -253,6 +257,10 @@ pub data Row : Type 0 where
   rowDeep : List ℕ → String → Row
   -- how many bytes of the program's input are its table
   rowEnds : List ℕ → ℕ → Row
+  -- a record under a table, by both rules: the number that its form is refused with, or 0
+  rowForm : List ℕ → List ℕ → ℕ → Row
+  -- the words of a step of a record, here counted from 0: the number, step and plan that they are refused with, or 0
+  rowWords : List ℕ → List ℕ → ℕ → ℕ → ℕ → ℕ → Row
   -- a pattern, satisfied and satisfiable or not, put into a word
   rowPuts : Pattern → Bool → Bool → ℕ → ℕ → Row
 
@@ -284,8 +292,13 @@ isRefusedRun number plan (rest.Rested k) = false
 isRefusedRun number plan rest.Moving = false
 isRefusedRun number plan (rest.Refused why) = isPlaced number plan why
 
+-- an outcome is told as number, step and plan, or 0
+isTold : ℕ → ℕ → ℕ → Outcome → Bool
+isTold number step plan Done = eqb number 0
+isTold number step plan (Refused why) = eqb (place why .number) number && eqb (place why .step) step && eqb (place why .plan) plan
+
 holdsIn : Row → Bool
-unfolding states manyStates bytes words idle isRested isMoving isAccepted isRefused isRefusedRun
+unfolding states manyStates bytes words idle isRested isMoving isAccepted isRefused isRefusedRun isTold
 holdsIn (rowStep rules t from w to) =
     all (λ rule. isDone (stepAnswer rule t (states from) w) && same (stepStates rule t (states from) w) (states to)) rules
 holdsIn (rowChooses t from q pick to) =
@@ -311,6 +324,8 @@ holdsIn (rowWaits t told) =
     && same (map (λ set. cond (waitFor t 0 (λ c. isSet (c - 1) set)) 49 48) (0 ∷ 1 ∷ 2 ∷ 3 ∷ 4 ∷ 5 ∷ 6 ∷ 7 ∷ [])) (text told)
 holdsIn (rowDeep t told) = same (map (λ set. cond (waitFor t 0 (λ c. isSet (c - 1) set)) 49 48) (0 ∷ 1 ∷ 2 ∷ 3 ∷ [])) (text told)
 holdsIn (rowEnds input k) = eqb (tableLength input) k
+holdsIn (rowForm t r number) = all (λ rule. isTold number 0 0 (recordCheck rule t r)) both
+holdsIn (rowWords t r i number step plan) = isTold number step plan (wordsCheck t r i)
 holdsIn (rowPuts p s t before after) = eqb (withPattern p s t before) after
 
 pub allHold : List Row → Bool
@@ -780,6 +795,52 @@ ourEnds =
     ∷ rowEnds (take 7 T1 ++ 1 ∷ drop 8 T1 ++ 65 ∷ []) 33
     ∷ []
 
+-- a record's header with a mark's last letter, a version and n, each of one byte
+header : ℕ → ℕ → ℕ → List ℕ
+header letter version n = 0x41 ∷ 0x50 ∷ letter ∷ version ∷ 0x00 ∷ n ∷ 0x00 ∷ 0x00 ∷ []
+
+-- T1's header, and two steps behind it with these words
+goodHeader : List ℕ
+unfolding header
+goodHeader = header 0x52 1 3
+
+twoSteps : List ℕ → List ℕ → List ℕ
+unfolding goodHeader
+twoSteps w₁ w₂ = goodHeader ++ w₁ ++ states 100 ++ w₂ ++ states 200
+
+-- what is wrong with a record, before its states are looked at
+ourRecords : List Row
+unfolding T1 T1With T1Waits node header goodHeader twoSteps words idle
+ourRecords =
+    -- 13: under 8 bytes, another mark, another version, its high byte, another n, its high byte, the last byte; none with no steps
+    rowForm T1 goodHeader 0
+    ∷ rowForm T1 [] 13
+    ∷ rowForm T1 (take 7 goodHeader) 13
+    ∷ rowForm T1 (header 0x54 1 3) 13
+    ∷ rowForm T1 (header 0x52 2 3) 13
+    ∷ rowForm T1 (take 4 goodHeader ++ 1 ∷ drop 5 goodHeader) 13
+    ∷ rowForm T1 (header 0x52 1 2) 13
+    ∷ rowForm T1 (take 6 goodHeader ++ 1 ∷ drop 7 goodHeader) 13
+    ∷ rowForm T1 (take 7 goodHeader ++ 1 ∷ []) 13
+    -- the version is 1, whatever the table's
+    ∷ rowForm (T1Waits 0 1 (node 5 2 0)) goodHeader 0
+    ∷ rowForm (T1Waits 0 1 (node 5 2 0)) (header 0x52 2 3) 13
+    -- 14: a step has 15 bytes; 13 before 14, and the table's before both
+    ∷ rowForm T1 (goodHeader ++ replicate 15 0) 0
+    ∷ rowForm T1 (goodHeader ++ replicate 14 0) 14
+    ∷ rowForm T1 (goodHeader ++ replicate 16 0) 14
+    ∷ rowForm T1 (goodHeader ++ replicate 30 0) 0
+    ∷ rowForm T1 (header 0x52 2 3 ++ replicate 14 0) 13
+    ∷ rowForm (T1With 0 0 3 32) [] 9
+    -- 12: the step is counted from 1, and each looks at its own words; a pick that a call may have is none that a record may
+    ∷ rowWords T1 (twoSteps idle idle) 1 0 0 0
+    ∷ rowWords T1 (twoSteps idle (words 0 1 0)) 0 0 0 0
+    ∷ rowWords T1 (twoSteps idle (words 0 1 0)) 1 12 2 1
+    ∷ rowWords T1 (twoSteps (words 0 1 2) idle) 0 12 1 1
+    ∷ rowWords T1 (twoSteps (words (2 ^ 24) 0 0) idle) 0 12 1 0
+    ∷ rowWords T1 (twoSteps (words 0 0 (2 ^ 20)) idle) 0 12 1 2
+    ∷ []
+
 -- document 02 (iii): what is known of a pattern, in a word's own bits, set and cleared, all others as they were
 ourWords : List Row
 ourWords =
@@ -798,10 +859,11 @@ ourWords =
 
 pub table : List Row
 unfolding
-    marked unmarked ourMoves badTurns badTurnsRefused retries choices ourRefusals ourShows ourFormulas ourWaits badFormulas ourEnds ourWords
+    marked unmarked ourMoves badTurns badTurnsRefused retries choices ourRefusals ourShows ourFormulas ourWaits badFormulas ourEnds
+    ourRecords ourWords
 table =
     marked ++ unmarked ++ ourMoves ++ badTurns ++ badTurnsRefused ++ retries ++ choices ++ ourRefusals ++ ourShows ++ ourFormulas
-    ++ ourWaits ++ badFormulas ++ ourEnds ++ ourWords
+    ++ ourWaits ++ badFormulas ++ ourEnds ++ ourRecords ++ ourWords
 
 pub rowsHold : allHold table ≡ true
 unfolding
@@ -810,5 +872,6 @@ unfolding
     move tooManyLost allEnded childrenComplete firstNotDone gateOpen mayActivate fallback readyOr chosen due orders
     stepFirst stepBy stepUnder step badState after leastRest badParent undefinedEntry unfitEntry undefinedByte unfit tooMany
     strayFirst badBytes badNode badRank formulasCheck asksTooMany badWait _andThen_ refuseIf refuseAt headerCheck ruleCheck tableCheck
-    badWord callCheck tableVerdict runAnswer runStates lastDescendant subTree decimalTo tableLength
+    badWord badRecordWord callCheck tableVerdict runAnswer runStates formCheck wordsCheck recordCheck lastDescendant subTree decimalTo
+    tableLength
 rowsHold = refl
