@@ -1,12 +1,14 @@
 -- What demand 3's last rules rule out: for each of them states, or states before and after a step, that break it, proved to break it,
 -- under a sequential plan (body 1), an any-order one (3), on abort (5) and of if-then-else (8). And picks that words may not hold explain
--- nothing, and there are two rules and no third. So that none of these definitions can lose a part unseen. Assumes nothing.
-use Prim.Native.Nat.{ℕ, zero, suc, _<_}
+-- nothing, there are two rules and no third, and a record's steps and a program's input have their limits. So that none of these
+-- definitions can lose a part unseen. Assumes nothing.
+use Prim.Native.Nat.{ℕ, zero, suc, _+_, _*_, _<_}
 use native.Mathlib.Omega.{arith}
 use mathlib.Core.Bool.{false, not, true≢false, _||_}
 use mathlib.Core.Path.{_≡_, refl, sym, ap, _∙_}
 use mathlib.Core.Logic.{⊎-elim}
-use mathlib.Core.List.{List}
+use mathlib.Core.List.{List, [], _∷_}
+use lib.ListN.{length}
 use lib.Dec.{T, eqb}
 use borrow.Author.Tests.{eq-eqb, ne-eqb}
 use Rattle.rules.specs.States.{code, stateAt, ended}
@@ -15,10 +17,12 @@ use Rattle.rules.specs.declared.PlanState.the-variants.{Considered, Abor
 use Rattle.rules.specs.Table.{isOrIsAbove, childrenBefore, children}
 use Rattle.rules.specs.Record.{Explained}
 use Rattle.rules.specs.Demands.{SubPlan, Retried, AtMostOne, OnlyWhileParent, EndingsKept}
-use Rattle.rules.specs.Answers.{ruleCheck, callCheck, recordCheck, Judged, malformed}
+use Rattle.rules.specs.Answers.{_andThen_, refuseIf, ruleCheck, callCheck, wrongHeader, formCheck, recordCheck, Judged, malformed}
+use Rattle.rules.specs.Program.{tableOf, recordOf, Answered, tooLong, judged}
 use Rattle.rules.specs.Cases.{T1Of, states}
-use Rattle.rules.specs.declared.Refusal.the-variants.{RuleNumber}
-use Rattle.rules.specs.declared.Outcome.the-variants.{Refused}
+use Rattle.rules.specs.declared.Refusal.the-variants.{RecordLength, InputLong, RuleNumber}
+use Rattle.rules.specs.declared.Outcome.the-variants.{Done, Refused}
+use Rattle.rules.specs.declared.Verdict.{Verdict}
 use Rattle.rules.specs.declared.Verdict.the-variants as verdict
 use Rattle.rules.proofs.Outcomes.{stop-last, then-stops}
 
@@ -137,3 +141,25 @@ module _ (rule : ℕ) (not-1 : rule ≡ 1 → ⊥) (not-2 : rule ≡ 2 → ⊥) 
   pub no-check-without-a-rule : (t r : List ℕ) → Judged rule t r (verdict.Refused RuleNumber)
   unfolding recordCheck
   no-check-without-a-rule t r = malformed (then-stops (ruleCheck rule) _ RuleNumber no-rule)
+
+-- Limits that no row shows, since what lies at them is long. A record of one plan, whose header passes: 65,535 steps of five bytes each are
+-- not too many, 65,536 are.
+abbrev alone : List ℕ
+alone = 65 ∷ 80 ∷ 84 ∷ 1 ∷ 0 ∷ 1 ∷ 0 ∷ 0 ∷ 255 ∷ 255 ∷ 0 ∷ 0 ∷ 0 ∷ 0 ∷ 0 ∷ 0 ∷ []
+
+module _ (r : List ℕ) (good : wrongHeader alone r ≡ false) where
+  pub most-steps : length r ≡ 8 + 5 * 65535 → formCheck alone r ≡ Done
+  unfolding formCheck _andThen_ refuseIf
+  most-steps size = rw (good, size) refl
+
+  pub too-many-steps : length r ≡ 8 + 5 * 65536 → formCheck alone r ≡ Refused RecordLength
+  unfolding formCheck _andThen_ refuseIf
+  too-many-steps size = rw (good, size) refl
+
+-- The program's input: 65,536 bytes are judged, one more is 16.
+module _ (input : List ℕ) where
+  pub longest-input : {v : Verdict} → length input ≡ 65536 → Judged 2 (tableOf input) (recordOf input) v → Answered input v
+  longest-input size verdict = judged (omega arith) verdict
+
+  pub input-too-long : length input ≡ 65537 → Answered input (verdict.Refused InputLong)
+  input-too-long size = tooLong (omega arith)
