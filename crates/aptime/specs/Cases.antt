@@ -39,6 +39,10 @@ saidTwice : saidIn (text "from 1\nasked 1\nfrom 1\nstop") ≡ wrong 3 Again
 unfolding run trimmed word after same natural number bound truth lines bounds one at singleKeyword keyword headOf says readFrom saidIn
 saidTwice = refl
 
+boundsTwice : saidIn (text "asked 1\nlasts _ .. 2\nfinish _ .. 2\nstart _ .. 2\nfinish 1 .. 3") ≡ wrong 5 Again
+unfolding run trimmed word after same natural number bound truth lines bounds one at singleKeyword keyword headOf says readFrom saidIn
+boundsTwice = refl
+
 notAsked : saidIn (text "from 1\n# that is all\n") ≡ wrong 3 NotAsked
 unfolding run trimmed word after same natural number bound truth lines bounds one at singleKeyword keyword headOf says readFrom saidIn
 notAsked = refl

@@ -3,8 +3,9 @@ use mathlib.Core.Path.{_≡_, refl}
 use mathlib.Core.List.{[], _∷_}
 use Rattle.rules.specs.Bytes.{text}
 use Rattle.rules.specs.Program.{decimalTo}
-use Rattle.rules.specs.declared.Outcome.the-variants.{Done}
-use Rattle.time.specs.declared.Judgement.the-variants.{Satisfied}
+use Rattle.rules.specs.declared.Refusal.the-variants.{ManySamples, NoInterval, NormalRange}
+use Rattle.rules.specs.declared.Outcome.the-variants.{Done, Refused}
+use Rattle.time.specs.declared.Judgement.the-variants.{Satisfied, Satisfiable, Neither, Refused as RefusedFor}
 use Rattle.statements.specs.Cases.{minus}
 use Rattle.statements.specs.declared.Fault.the-variants.{Again}
 use Rattle.printing.specs.Printing.{shiftsText, durationsText, wrongText, answerText}
@@ -18,3 +19,16 @@ wardPrints :
     ≡ text "satisfied by -60 .. 60\nsatisfiable\nnormal form:\nstart -120 .. -120\nfinish 0 .. 0\nlasts 120 .. 120\nfrom 60\n"
 unfolding decimalTo shiftsText durationsText
 wardPrints = refl
+
+-- not satisfied, and still to be or not; no normal form; a question that is refused
+yetPrints : answerText Satisfiable (Refused NormalRange) [] ≡ text "not satisfied\nsatisfiable\nno normal form: refused 26 0 0\n"
+unfolding decimalTo
+yetPrints = refl
+
+neverPrints : answerText Neither (Refused NoInterval) [] ≡ text "not satisfied\nnot satisfiable\nno normal form: refused 21 0 0\n"
+unfolding decimalTo
+neverPrints = refl
+
+refusedPrints : answerText (RefusedFor ManySamples) (Refused NoInterval) [] ≡ text "refused 19 0 0\n"
+unfolding decimalTo
+refusedPrints = refl

@@ -33,6 +33,12 @@ read =
     ∷ text "at 7 yes"
     ∷ text "from 3 4"
     ∷ text "stop 3"
+    ∷ text "from"
+    ∷ text "asked -"
+    ∷ text "start"
+    ∷ text "start 1 .. 2 3"
+    ∷ text "at 7 true 8"
+    ∷ text "\tfrom\t3\r"
     ∷ []
 
 abbrev meant : List Saying
@@ -52,6 +58,12 @@ meant =
     ∷ Wrong NoTruth
     ∷ Wrong More
     ∷ Wrong Unknown
+    ∷ Wrong NoNumber
+    ∷ Wrong NoNumber
+    ∷ Wrong NoNumber
+    ∷ Wrong More
+    ∷ Wrong More
+    ∷ One From 3
     ∷ []
 
 each : List (List ℕ) → List Saying
