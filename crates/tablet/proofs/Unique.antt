@@ -3,7 +3,7 @@
 -- loses nothing: a host finds number, plan and step in an answer again, and a refusal's number is never 0. Assumes nothing.
 use Prim.Native.Nat.{ℕ, _/_, _%_, _^_, _<_, _≤_}
 use native.Mathlib.Omega.{arith}
-use mathlib.Core.Path.{_≡_, sym, ap, _∙_}
+use mathlib.Core.Path.{_≡_, refl, sym, ap, _∙_}
 use mathlib.Core.List.{List}
 use denote.Ref.{now}
 use Rattle.rules.specs.Answers.{place}
@@ -35,6 +35,8 @@ use Rattle.rules.specs.declared.Refusal.the-variants.{
   OutputShort,
   NormalRange,
 }
+use Rattle.rules.specs.declared.Rest.{Rest}
+use Rattle.rules.specs.declared.Rest.the-variants as rest
 use Rattle.rules.specs.declared.Figure.{Figure}
 use Rattle.rules.specs.declared.Figure.the-variants as figure
 use Rattle.rules.proofs.Unique.{one-answer, by-equation, OneAnswer, OneAnswerLeaving}
@@ -53,6 +55,7 @@ use Rattle.tablet.specs.Packed.{
   packed,
   packedRefusal,
   packedOutcome,
+  packedRest,
   packedBound,
   packedVerdict,
   Told,
@@ -162,3 +165,14 @@ pub figure-found : (b : Figure) (k : ℕ) → packedBound b ≡ packed 0 k 0 →
 figure-found (figure.Within j) k e = ap figure.Within (omega (arith, e))
 figure-found figure.Unknown k e = absurd (omega (arith, e))
 figure-found (figure.Refused why) k e = absurd (no-refusal k 0 why (sym e))
+
+-- and one of the run is a rest after so many steps; with plan 1 the run is still moving, and the step is its budget
+pub rest-found : (budget : ℕ) (r : Rest) (k : ℕ) → packedRest budget r ≡ packed 0 k 0 → r ≡ rest.Rested k
+rest-found budget (rest.Rested j) k e = ap rest.Rested (omega (arith, e))
+rest-found budget rest.Moving k e = absurd (omega (arith, e))
+rest-found budget (rest.Refused why) k e = absurd (no-refusal k 0 why (sym e))
+
+pub moving-found : (budget : ℕ) (r : Rest) (k : ℕ) → packedRest budget r ≡ packed 0 k 1 → (r ≡ rest.Moving) × (k ≡ budget)
+moving-found budget (rest.Rested j) k e = absurd (omega (arith, e))
+moving-found budget rest.Moving k e = (refl, omega (arith, e))
+moving-found budget (rest.Refused why) k e = absurd (no-refusal k 1 why (sym e))
