@@ -159,8 +159,13 @@ refusals :
     -- 20: equal minutes; the asking before the last sample
     × Judged (annotation none none none none 0 none 0) (true-at 3 ∷ false-at 3 ∷ []) 5 (RefusedFor TimesOrder)
     × Judged (annotation none none none none 0 none 0) (true-at 3 ∷ []) 2 (RefusedFor TimesOrder)
+    -- 18 of the annotation before 20 of the samples, and of the minute of asking before 19
+    × Judged (annotation 1000000001 none none none 0 none 0) (true-at 3 ∷ false-at 3 ∷ []) 5 (RefusedFor ValueRange)
+    × Judged (annotation none none none none 0 none 0) (replicate 1025 (true-at 0)) 1000000001 (RefusedFor ValueRange)
 unfolding patternCheck samplesCheck annotationInRange inOrder edge every _andThen_ refuseIf
 refusals = (
+  refused refl,
+  refused refl,
   refused refl,
   refused refl,
   refused refl,
