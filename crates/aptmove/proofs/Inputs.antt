@@ -17,7 +17,7 @@ use Rattle.rules.specs.declared.Outcome.{Outcome}
 use Rattle.rules.specs.declared.Outcome.the-variants.{Done, Refused}
 use Rattle.rules.specs.declared.Verdict.the-variants as verdict
 use Rattle.rules.proofs.Outcomes.{pass, pass-last, stop, then-done, then-next, then-stops, refused-not-done}
-use Rattle.versions.specs.Versions.{inVersion1, inVersion2, checkFrom, checkTo1, checkTo2, roomCheck}
+use Rattle.versions.specs.Versions.{inVersion1, inVersion2, checkTo1, checkTo2, roomCheck}
 use Rattle.versions.proofs.Laid.{length-1, length-2, nodes-within}
 use Rattle.versions.proofs.Moves.{has-plans, from-second}
 use Rattle.aptmove.specs.Moving.{check, moved, printed, complained, Within}

@@ -3,17 +3,17 @@
 use Prim.Native.Nat.{ℕ, _<_}
 use native.Mathlib.Omega.{arith}
 use mathlib.Core.Bool.{Bool, true, false, not, _&&_}
-use mathlib.Core.Path.{_≡_, refl, sym, _∙_}
+use mathlib.Core.Path.{_≡_, refl}
 use mathlib.Core.Logic.{_⊎_, inl, inr}
 use mathlib.Core.List.{List, [], _∷_, List·Memᴰ, List·Memᴰ·head, List·Memᴰ·tail, List·Memᴰ·eq-of-singleton}
-use lib.Dec.{T, eqb}
+use lib.Dec.{T}
 use lib.ListN.{getD, length}
 use borrow.Author.Tests.{eq-eqb, ne-eqb, not-false, eqb-true}
 use Rattle.rules.specs.Lists.{noPlan}
 use Rattle.rules.specs.States.{stateAt, is}
 use Rattle.rules.specs.Table.{planCount, entry, bodyOf, ofTwo, retryAborted, children, firstChild, secondChild}
 use Rattle.rules.specs.Words.{ifSatisfied, ifSatisfiable}
-use Rattle.rules.specs.Step.{branchTaken, dueOfTwo, stateOfFirst, stateOfSecond, due}
+use Rattle.rules.specs.Step.{branchTaken, dueOfTwo, due}
 use Rattle.rules.specs.HandedIn.{letsLater}
 use Rattle.rules.specs.Answers.{unfitAny, unfitTwo, unfitEntry, unfit}
 use Rattle.rules.specs.Demands.{SubPlan}

@@ -41,17 +41,7 @@ use Rattle.demands.proofs.Tests.{both, left, right, either, decide}
 use Rattle.demands.proofs.Lists.{found-some, first-le}
 use Rattle.demands.proofs.Children.{child-member, sorted-children, after-parent}
 use Rattle.demands.proofs.States.{code-isCode, is-it, pairs}
-use Rattle.demands.proofs.Moves.{
-  dormant,
-  Moved,
-  under-dormant,
-  suits-parent,
-  execution,
-  not-considered,
-  was-unbegun,
-  keptOrTaken,
-  was-kept,
-}
+use Rattle.demands.proofs.Moves.{dormant, Moved, under-dormant, suits-parent, execution, not-considered, was-unbegun, was-kept}
 use Rattle.demands.proofs.Step.{told, next, length-step, byte-step, state-step}
 use Rattle.demands.proofs.Orders.{
   activates-while,

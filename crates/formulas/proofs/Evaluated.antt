@@ -2,8 +2,8 @@
 -- Assumes nothing.
 use Prim.Native.Nat.{ℕ, zero, suc, _+_, _-_, _≤_, _<_}
 use native.Mathlib.Omega.{arith}
-use mathlib.Core.Path.{_≡_, refl, sym, ap, ap₂, _∙_}
-use mathlib.Core.Bool.{Bool, true, false, not, _&&_, _||_, Bool·beq}
+use mathlib.Core.Path.{_≡_, sym, ap, _∙_}
+use mathlib.Core.Bool.{Bool, false, not, _&&_, _||_}
 use mathlib.Core.List.{List, [], _∷_, map}
 use lib.Bits.{bitAnd}
 use lib.Count.{ones}
@@ -15,7 +15,7 @@ use Rattle.rules.specs.Table.{planCount, entry, named, children}
 use Rattle.rules.specs.WaitFor.{asks, operands, nodeCount, node, isLeaf, atLeast, childPasses, askedHolds, formulaHolds}
 use Rattle.rules.specs.Answers.{strayFirst}
 use Rattle.rules.proofs.Tree.{or-left, or-right}
-use Rattle.children.specs.Sets.{setOf, setBefore, bits}
+use Rattle.children.specs.Sets.{setOf, setBefore}
 use Rattle.children.proofs.Sets.{set-and, set-ones}
 use Rattle.children.proofs.Bits.{digit-bits}
 use Rattle.formulas.specs.Asked.{Formed, TellsFormula}

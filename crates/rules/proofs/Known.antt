@@ -1,11 +1,11 @@
 -- What is known of a pattern, put into a word: which bits change and how; and a word that passes check 12 still passes it, where what is
 -- satisfied is satisfiable. Assumes nothing.
-use Prim.Native.Nat.{ℕ, zero, _+_, _-_, _/_, _%_, _^_, _<_}
+use Prim.Native.Nat.{ℕ, _-_, _/_, _%_, _^_, _<_}
 use native.Mathlib.Nat.{zero-div, zero-mod, mod-mod}
 use native.Mathlib.Omega.{arith}
 use mathlib.Core.Path.{_≡_, refl, sym, ap, _∙_}
 use mathlib.Core.Bool.{Bool, true, false, cond, not, _&&_, _||_, false≢true}
-use lib.Bits.{bitAnd, bitOr, and-shr, or-shr, and-mod, or-mod, and-mask, or-zero-r, or-lt}
+use lib.Bits.{bitOr, and-shr, or-shr, and-mod, or-mod, and-mask, or-zero-r, or-lt}
 use lib.Pow.{shr-shr}
 use Rattle.rules.specs.Bytes.{bits, isSet}
 use Rattle.rules.specs.Table.{isBody, bitOf}

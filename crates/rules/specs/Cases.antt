@@ -227,11 +227,11 @@ idle = words 0 0 0
 abbrev both : List ℕ
 both = 1 ∷ 2 ∷ []
 
-abbrev old : List ℕ
-old = 1 ∷ []
+abbrev rule1 : List ℕ
+rule1 = 1 ∷ []
 
-abbrev new : List ℕ
-new = 2 ∷ []
+abbrev rule2 : List ℕ
+rule2 = 2 ∷ []
 
 pub data Row : Type 0 where
   -- one step that is done: rules, table, states, words, new states
@@ -538,35 +538,35 @@ badTurnsRefused =
 retries : List Row
 unfolding forEach T1 T1With T1Of sequential waiting words idle
 retries =
-    -- T1 with retry goes from 473 to 413, and by the old rule to 778; a run goes on from there
-    rowStep old (T1With 1 0 2 32) 473 idle 778
-    ∷ rowStep new (T1With 1 0 2 32) 473 idle 413
-    ∷ rowRests old (T1With 1 0 2 32) 473 8 1 778
-    ∷ rowRests new (T1With 1 0 2 32) 473 8 3 434
+    -- T1 with retry goes from 473 to 413, and by rule 1 to 778; a run goes on from there
+    rowStep rule1 (T1With 1 0 2 32) 473 idle 778
+    ∷ rowStep rule2 (T1With 1 0 2 32) 473 idle 413
+    ∷ rowRests rule1 (T1With 1 0 2 32) 473 8 1 778
+    ∷ rowRests rule2 (T1With 1 0 2 32) 473 8 3 434
     -- and rests at once where a Suspended root is not reactivated
-    ∷ rowRests old (T1With 1 12 2 32) 573 8 1 778
-    ∷ rowRests new (T1With 1 12 2 32) 573 8 0 573
-    -- a Rejected child is lost by both, alone and beside an Aborted one, which is not lost by the new rule
+    ∷ rowRests rule1 (T1With 1 12 2 32) 573 8 1 778
+    ∷ rowRests rule2 (T1With 1 12 2 32) 573 8 0 573
+    -- a Rejected child is lost by both, alone and beside an Aborted one, which is not lost by rule 2
     ∷ rowStep both (T1With 1 0 2 32) 483 idle 788
     ∷ rowStep both (T1With 1 0 2 32) 478 idle 778
-    ∷ rowStep old (T1With 1 0 1 32) 478 idle 778
-    ∷ rowStep new (T1With 1 0 1 32) 478 idle 418
-    -- a Suspended root: aborted by the old rule, reactivated by the new one, and it does not retry in that step
-    ∷ rowStep old (T1With 1 4 2 32) 573 idle 778
-    ∷ rowStep new (T1With 1 4 2 32) 573 idle 473
+    ∷ rowStep rule1 (T1With 1 0 1 32) 478 idle 778
+    ∷ rowStep rule2 (T1With 1 0 1 32) 478 idle 418
+    -- a Suspended root: aborted by rule 1, reactivated by rule 2, and it does not retry in that step
+    ∷ rowStep rule1 (T1With 1 4 2 32) 573 idle 778
+    ∷ rowStep rule2 (T1With 1 4 2 32) 573 idle 473
     -- the root's own abort is felt by both
     ∷ rowStep both (T1With 1 16 2 32) 473 (words 16 0 0) 778
     -- completion is asked as before: an Aborted child is ended, with wait-for-optional, also where it would be retried
     ∷ rowStep both (T1With 3 0 1 32) 467 idle 667
     -- retry-aborted is the plan's own: plan 1 retries the leaf, and then the root retries plan 1 and plan 1 does not retry the leaf
-    ∷ rowStep old (waiting 0 1) 447 idle 477
-    ∷ rowStep new (waiting 0 1) 447 idle 441
+    ∷ rowStep rule1 (waiting 0 1) 447 idle 477
+    ∷ rowStep rule2 (waiting 0 1) 447 idle 441
     ∷ rowStep both (waiting 1 0) 447 idle 477
     -- the other bodies that may have retry-aborted
-    ∷ rowStep old (sequential 1 2) 470 idle 770
-    ∷ rowStep new (sequential 1 2) 470 idle 410
+    ∷ rowStep rule1 (sequential 1 2) 470 idle 770
+    ∷ rowStep rule2 (sequential 1 2) 470 idle 410
     ∷ []
-    ++ forEach (2 ∷ 4 ∷ []) (λ body. rowStep old (T1Of body 1 0 2 32) 473 idle 778 ∷ rowStep new (T1Of body 1 0 2 32) 473 idle 414 ∷ [])
+    ++ forEach (2 ∷ 4 ∷ []) (λ body. rowStep rule1 (T1Of body 1 0 2 32) 473 idle 778 ∷ rowStep rule2 (T1Of body 1 0 2 32) 473 idle 414 ∷ [])
     -- 17: another rule number, before a short table's 1 and before all else
     ++ (rowRefuses (0 ∷ 3 ∷ 4294967295 ∷ []) T1 000 idle 17 0
     ∷ rowRefuses (0 ∷ 3 ∷ 4294967295 ∷ []) (take 7 T1) 000 idle 17 0
@@ -726,8 +726,8 @@ ourWaits =
     ∷ rowStep both (T1Waits 0 3 (node 3 1 2 ++ node 0 0 0 ++ node 0 1 0)) 463 idle 668
     ∷ rowStep both (T1Waits 0 2 (node 1 1 0 ++ node 0 0 0)) 433 idle 788
     ∷ rowStep both (T1Waits 0 2 (node 1 1 0 ++ node 0 0 0)) 473 idle 678
-    ∷ rowStep old (T1Waits 1 2 (node 1 1 0 ++ node 0 0 0)) 473 idle 678
-    ∷ rowStep new (T1Waits 1 2 (node 1 1 0 ++ node 0 0 0)) 473 idle 778
+    ∷ rowStep rule1 (T1Waits 1 2 (node 1 1 0 ++ node 0 0 0)) 473 idle 678
+    ∷ rowStep rule2 (T1Waits 1 2 (node 1 1 0 ++ node 0 0 0)) 473 idle 778
     -- a leaf waits for nothing, though its byte 7 is 0; a plan's formula asks for its own children, and begins where its own byte 7 says
     ∷ rowStep both (T1Waits 0 3 (node 2 1 2 ++ node 0 0 0 ++ node 0 1 0)) 443 (words 0 32 0) 463
     ∷ rowStep both (inVersion2 (waiting 0 0) 4 (node 5 0 0 ++ node 2 2 3 ++ node 0 0 0 ++ node 5 1 0)) 446 (words 0 32 0) 466

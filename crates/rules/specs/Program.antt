@@ -1,6 +1,6 @@
 -- Document 01: the program `aprcheck`, from the bytes of its input to the bytes of its line; it uses rule 2, by document 02 (ii), and
 -- ends a table of version 2 behind its nodes, by (v). Assumes nothing.
-use Prim.Native.Nat.{ℕ, zero, suc, _+_, _*_, _/_, _%_, _<_, _≤_}
+use Prim.Native.Nat.{ℕ, zero, suc, _+_, _/_, _%_, _<_, _≤_}
 use mathlib.Core.Bool.{cond, _&&_}
 use mathlib.Core.Path.{_≡_}
 use mathlib.Core.List.{List, [], _∷_, _++_}

@@ -1,7 +1,7 @@
 -- Wait-for: document 01's wait number, and document 02 (v): the nodes of a table of version 2, the formulas that they make, and the plan
 -- in whose formula a node stands. Assumes nothing.
 use Prim.Native.Nat.{ℕ, zero, suc, _+_, _*_}
-use mathlib.Core.Bool.{Bool, true, false, cond, not, _&&_, _||_, Bool·beq}
+use mathlib.Core.Bool.{Bool, false, cond, not, _&&_, _||_, Bool·beq}
 use mathlib.Core.List.{List, [], _∷_, _++_, map}
 use lib.ListN.{getD}
 use lib.Dec.{eqb, leb}

@@ -1,7 +1,7 @@
 -- Laws of checks 7, 8 and 9: a rule said of what is known of a plan is the rule said of the table. Assumes nothing.
 use Prim.Native.Nat.{ℕ, _<_}
 use mathlib.Core.Path.{_≡_, refl, ap, _∙_}
-use mathlib.Core.Bool.{Bool, not}
+use mathlib.Core.Bool.{not}
 use mathlib.Core.List.{List}
 use lib.Count.{ones}
 use lib.Dec.{leb}

@@ -1,25 +1,24 @@
 -- What a host makes of the answers about patterns: bits 16 and 17 of an answer decide satisfied and satisfiable, both ways; and words made
 -- of answers pass what check 12 asks of them. Assumes nothing.
-use Prim.Native.Nat.{ℕ, _+_, _*_, _%_, _^_, _≤_, _<_}
+use Prim.Native.Nat.{ℕ, _%_, _^_}
 use native.Mathlib.Omega.{arith}
-use mathlib.Core.Path.{_≡_, refl, sym, ap, subst}
+use mathlib.Core.Path.{_≡_, refl, sym, subst}
 use mathlib.Core.Bool.{Bool, true, false, cond, _&&_, false≢true}
 use mathlib.Core.List.{List}
 use borrow.Author.Tests.{eqb-true}
 use lib.Dec.{eqb, leb}
-use Rattle.rules.specs.Answers.{place, wrongWordIf}
+use Rattle.rules.specs.Answers.{wrongWordIf}
 use Rattle.rules.specs.Bytes.{isSet}
 use Rattle.rules.specs.Words.{withPattern}
 use Rattle.rules.specs.declared.Body.{Body}
 use Rattle.rules.specs.declared.Outcome.the-variants.{Done}
-use Rattle.rules.specs.declared.Refusal.{Refusal}
 use Rattle.rules.proofs.Known.{fits, still-passes}
 use Rattle.time.specs.Annotations.{counted, annotationOf}
 use Rattle.time.specs.Patterns.{trueAt, Satisfied, Satisfiable, patternCheck, Judged, refused, satisfied, satisfiable, neither}
 use Rattle.time.specs.declared.Judgement.{Judgement}
 use Rattle.time.proofs.Histories.{order}
 use Rattle.time.proofs.Theorems.{satisfied-is-satisfiable}
-use Rattle.tablet.specs.Packed.{packedRefusal, packedJudgement, PatternTold, patternOf, withAnswer}
+use Rattle.tablet.specs.Packed.{packedJudgement, PatternTold, patternOf, withAnswer}
 use Rattle.tablet.proofs.Unique.{refusal-number}
 
 -- a test decides a statement

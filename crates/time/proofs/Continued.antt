@@ -1,5 +1,5 @@
 -- What some continuation of a history can satisfy: the run that goes on, or a fresh one. Assumes nothing.
-use Prim.Native.Nat.{ℕ, zero, suc, _+_, _-_, _≤_, _<_, max, min}
+use Prim.Native.Nat.{ℕ, _+_, _-_, _≤_, _<_, max}
 use native.Mathlib.Omega.{arith}
 use native.Mathlib.Decide.{decLt, decLe}
 use mathlib.Core.Path.{_≡_, refl, sym, _∙_, subst}
@@ -30,7 +30,7 @@ use Rattle.time.proofs.Windows.{
   nearer,
 }
 use Rattle.time.proofs.Runs.{start-flank, start-is, started-at}
-use Rattle.time.proofs.Passes.{Quiet, Going, Passed}
+use Rattle.time.proofs.Passes.{Going, Passed}
 
 -- a history until the minute of asking, and then true from p to q
 continued : (ℕ → Bool) → ℕ → ℕ → ℕ → ℕ → Bool

@@ -2,8 +2,8 @@
 use Prim.Native.Nat.{ℕ, zero, suc, _+_, _-_, _≤_, _<_}
 use native.Mathlib.Omega.{arith}
 use native.Mathlib.Decide.{ℕ-discrete, decLt}
-use mathlib.Core.Path.{_≡_, refl, sym, _∙_, subst, ap}
-use mathlib.Core.Bool.{Bool, true, false, cond, not, _&&_}
+use mathlib.Core.Path.{_≡_, refl, sym, subst}
+use mathlib.Core.Bool.{Bool, true, false, not, _&&_}
 use mathlib.Core.List.{List}
 use lib.ListN.{length}
 use lib.Dec.{leb, ltb}
@@ -13,26 +13,9 @@ use Rattle.rules.specs.declared.Refusal.the-variants.{ValueRange, ManySamples, 
 use Rattle.rules.specs.declared.Outcome.{Outcome}
 use Rattle.rules.specs.declared.Outcome.the-variants.{Done, Refused}
 use Rattle.rules.proofs.Outcomes.{first-done, then-done, if-done}
-use Rattle.time.specs.Annotations.{base, counted, annotationOf, inRange, annotationInRange}
-use Rattle.time.specs.Patterns.{
-  every,
-  minuteAt,
-  truthAt,
-  edge,
-  speaksOf,
-  trueAt,
-  inOrder,
-  Satisfies,
-  Satisfied,
-  Satisfiable,
-  samplesCheck,
-  patternCheck,
-  Judged,
-  satisfied,
-  satisfiable,
-  neither,
-}
-use Rattle.time.specs.Search.{far, window, next, passTo, canBe, told, answer, judgementOf, Near, NearAll}
+use Rattle.time.specs.Annotations.{counted, annotationOf, inRange, annotationInRange}
+use Rattle.time.specs.Patterns.{every, minuteAt, truthAt, edge, speaksOf, trueAt, inOrder, Satisfied, samplesCheck, patternCheck, Judged, satisfied, satisfiable, neither}
+use Rattle.time.specs.Search.{window, next, passTo, canBe, told, answer, judgementOf, Near, NearAll}
 use Rattle.time.specs.declared.Annotation.{Annotation}
 use Rattle.time.specs.declared.Window.{Window}
 use Rattle.time.specs.declared.Pass.{Pass}

@@ -4,7 +4,7 @@ use native.Mathlib.Omega.{arith}
 use mathlib.Core.Path.{_≡_, refl, ap}
 use Rattle.time.specs.Annotations.{base, NotSooner, NotLater, NotLonger, Admits}
 use Rattle.time.specs.Normal.{larger, smaller, minus, plus, largerNumber, normal, Possible}
-use Rattle.time.specs.Search.{Near, NearBound, NearAll}
+use Rattle.time.specs.Search.{NearBound, NearAll}
 use Rattle.time.specs.declared.Bound.{Bound}
 use Rattle.time.specs.declared.Bound.the-variants.{Open, At}
 use Rattle.time.specs.declared.Annotation.{Annotation}

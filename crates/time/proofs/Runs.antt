@@ -2,12 +2,12 @@
 use Prim.Native.Nat.{ℕ, _+_, _-_, _≤_, _<_, max, min}
 use native.Mathlib.Omega.{arith}
 use native.Mathlib.Decide.{ℕ-discrete, decLt}
-use mathlib.Core.Path.{_≡_, refl, sym, _∙_, subst}
+use mathlib.Core.Path.{_≡_, refl, _∙_, subst}
 use mathlib.Core.Logic.{_⊎_, inl, inr}
 use mathlib.Core.Bool.{Bool, true, false}
 use borrow.Author.Tests.{leb-true, leb-false}
 use lib.Dec.{leb}
-use Rattle.time.specs.Annotations.{base, Exactly, Admits}
+use Rattle.time.specs.Annotations.{base, Exactly}
 use Rattle.time.specs.Patterns.{Satisfies}
 use Rattle.time.specs.Search.{low, high, far, window, admitted, firstOf, lastOf, Near, NearBound, NearAll}
 use Rattle.time.specs.declared.Bound.{Bound}

@@ -3,9 +3,8 @@ use Prim.Native.Nat.{ℕ, zero, suc, _+_, _<_}
 use native.Mathlib.Numerals.{add-one}
 use native.Mathlib.Omega.{arith}
 use native.Mathlib.Decide.{ℕ-discrete}
-use mathlib.Core.Path.{_≡_, refl, sym, _∙_, subst, ap}
-use mathlib.Core.Bool.{Bool, true, false, not, _&&_, _||_, false≢true}
-use borrow.Author.Tests.{not-true, not-false}
+use mathlib.Core.Path.{_≡_, refl, sym, _∙_, ap}
+use mathlib.Core.Bool.{Bool, true, false, not, _&&_, false≢true}
 use Rattle.time.specs.Patterns.{every, some}
 
 pub clash : {A : Type 0} {b : Bool} → b ≡ true → b ≡ false → A

@@ -1,9 +1,9 @@
 -- What request (iii) promises of the definitions: satisfied implies satisfiable; an annotation and its normal form admit the same
 -- intervals; normalising again changes nothing. Assumes nothing.
-use Prim.Native.Nat.{ℕ, _+_, _%_, _^_, _≤_}
+use Prim.Native.Nat.{ℕ}
 use native.Mathlib.Omega.{arith}
 use mathlib.Core.Path.{_≡_, refl, sym, _∙_, ap, subst}
-use mathlib.Core.Bool.{Bool, true, false}
+use mathlib.Core.Bool.{true}
 use mathlib.Core.List.{List}
 use borrow.Author.Tests.{ne-eqb}
 use Rattle.rules.specs.declared.Outcome.the-variants.{Done}

@@ -1,18 +1,17 @@
 -- The tests of a window say which intervals an annotation admits. Assumes nothing.
-use Prim.Native.Nat.{ℕ, _+_, _-_, _≤_, max, min}
+use Prim.Native.Nat.{ℕ, _+_, _-_, _≤_, max}
 use native.Mathlib.Omega.{arith}
 use mathlib.Core.Path.{_≡_, refl}
-use mathlib.Core.Logic.{_⊎_, inl, inr}
-use mathlib.Core.Bool.{Bool, true, false, _&&_}
-use borrow.Author.Tests.{leb-true, leb-false, le-leb}
+use mathlib.Core.Bool.{Bool, true, _&&_}
+use borrow.Author.Tests.{leb-true, le-leb}
 use lib.Dec.{leb}
-use Rattle.time.specs.Annotations.{base, NotSooner, NotLater, Exactly, NotLonger, Admits}
-use Rattle.time.specs.Search.{low, high, windowTo, far, window, admitted, finish, soonest, Near, NearBound, NearAll}
+use Rattle.time.specs.Annotations.{base, NotSooner, NotLater, NotLonger, Admits}
+use Rattle.time.specs.Search.{low, high, windowTo, far, window, admitted, finish, soonest, NearBound, NearAll}
 use Rattle.time.specs.declared.Bound.{Bound}
 use Rattle.time.specs.declared.Bound.the-variants.{Open, At}
 use Rattle.time.specs.declared.Annotation.{Annotation}
 use Rattle.time.specs.declared.Window.{Window}
-use Rattle.time.proofs.Tests.{first, second, both}
+use Rattle.time.proofs.Tests.{first, second}
 
 -- the interval from t1 to t2 lies in a window
 pub record Within (w : Window) (t1 t2 : ℕ) : Type 0 where

@@ -3,7 +3,7 @@
 -- Minutes are counted from 4,000,000,000 minutes before minute 0, so that all that are handed in are numbers from 0: minute z is the number
 -- z + base, and so is a shift or a duration of z minutes. Nothing is subtracted: that the reference point r plus a shift v is not after t,
 -- (r - base) + (v - base) ≤ t - base, is said as r + v + base ≤ t + (base + base).
-use Prim.Native.Nat.{ℕ, _+_, _*_, _%_, _^_, _≤_}
+use Prim.Native.Nat.{ℕ, _+_, _%_, _^_, _≤_}
 use mathlib.Core.Path.{_≡_}
 use mathlib.Core.Bool.{Bool, true, cond, _&&_}
 use mathlib.Core.List.{List}

@@ -1,7 +1,7 @@
 -- How the code decides: one pass over the samples, and of each run of true minutes the one interval that can satisfy. Nobody has to
 -- believe this: proofs/ shows that it decides what `Patterns` and `Normal` define. Assumes nothing.
 use Prim.Native.Nat.{ℕ, zero, suc, _+_, _-_, _*_, _^_, _≤_, max, min}
-use mathlib.Core.Bool.{Bool, true, false, cond, _&&_, _||_}
+use mathlib.Core.Bool.{Bool, true, false, _&&_, _||_}
 use mathlib.Core.List.{List}
 use lib.ListN.{length}
 use lib.Dec.{leb}

@@ -1,7 +1,5 @@
 -- `all_ended` meets its contract: two children by their own rule, any others each by itself. Assumes nothing.
-use mathlib.Core.Path.{_≡_, sym, ap, _∙_}
-use mathlib.Core.Bool.{Bool, true}
-use lib.Dec.{T}
+use mathlib.Core.Path.{sym, ap, _∙_}
 use borrow.Author.Needs.{needs}
 use Rattle.rules.specs.Table.{ofTwo}
 use Rattle.rules.specs.Step.{allEnded}

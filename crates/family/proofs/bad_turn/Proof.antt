@@ -1,6 +1,5 @@
 -- `bad_turn` meets its contract: the first child's bit in the words of the Aborted and of the Suspended children. Assumes nothing.
 use mathlib.Core.Path.{_≡_, ap, _∙_}
-use mathlib.Core.Bool.{Bool}
 use mathlib.Core.List.{List, [], _∷_}
 use Prim.Native.Nat.{ℕ, _%_}
 use lib.Dec.{eqb}

@@ -5,7 +5,6 @@ use Prim.Native.Nat.{ℕ, zero, suc, _-_, _≤_, _<_}
 use native.Mathlib.Decide.{decLt}
 use native.Mathlib.Omega.{arith}
 use borrow.Author.Count.{below-none, below-more}
-use borrow.Author.Needs.{needs}
 use borrow.Author.Tests.{not-true}
 use denote.Ref.{now}
 use Rattle.rules.specs.Answers.{badRecordWord}

@@ -2,8 +2,7 @@
 use borrow.Author.Needs.{needs}
 use Rattle.pattern.proofs.answer.Statement.{statement}
 use Rattle.pattern.proofs.answer.Tie as tie
-use mathlib.Core.Path.{sym, ap, _∙_}
-use Rattle.time.specs.Search.{canBe, told, answer}
+use Rattle.time.specs.Search.{answer}
 
 returns : tie.Need-returns
 unfolding answer

@@ -2,8 +2,8 @@
 use borrow.Author.Needs.{needs}
 use Rattle.pattern.proofs.check.Statement.{statement}
 use Rattle.pattern.proofs.check.Tie as tie
-use mathlib.Core.Path.{_≡_, sym, ap, _∙_}
-use mathlib.Core.Bool.{true, false, not, _&&_}
+use mathlib.Core.Path.{_≡_, sym, _∙_}
+use mathlib.Core.Bool.{true, false, _&&_}
 use borrow.Author.Tests.{not-true, not-false}
 use denote.Ref.{now}
 use Rattle.time.specs.Annotations.{inRange, annotationInRange}

@@ -2,12 +2,12 @@
 use borrow.Author.Needs.{needs}
 use Rattle.pattern.proofs.in_order.Statement.{statement}
 use Rattle.pattern.proofs.in_order.Tie as tie
-use Prim.Native.Nat.{ℕ, suc, _+_, _-_, _≤_, _<_}
+use Prim.Native.Nat.{suc, _-_, _≤_}
 use native.Mathlib.Omega.{arith}
-use mathlib.Core.Path.{_≡_, refl, sym, ap, subst, _∙_}
+use mathlib.Core.Path.{_≡_, refl, sym, ap, _∙_}
 use lib.ListN.{length}
 use denote.Ref.{now}
-use Rattle.time.specs.Patterns.{every, minuteAt, edge, inOrder}
+use Rattle.time.specs.Patterns.{every, edge, inOrder}
 use Rattle.time.proofs.Histories.{edge-in, edge-end, goesUp, falls-at, rises-at}
 
 abbrev Inv-loop : tie.InvT-loop

@@ -3,7 +3,6 @@ use borrow.Author.Needs.{needs}
 use Rattle.pattern.proofs.ordered_in_range.Statement.{statement}
 use Rattle.pattern.proofs.ordered_in_range.Tie as tie
 use native.Mathlib.Omega.{arith}
-use mathlib.Core.Path.{refl}
 use denote.Ref.{now}
 use Rattle.time.specs.Patterns.{every}
 use Rattle.time.proofs.Histories.{first-tells}

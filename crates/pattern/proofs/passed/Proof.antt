@@ -2,7 +2,7 @@
 use borrow.Author.Needs.{needs}
 use Rattle.pattern.proofs.passed.Statement.{statement}
 use Rattle.pattern.proofs.passed.Tie as tie
-use Prim.Native.Nat.{ℕ, _+_, _-_, _≤_, _<_}
+use Prim.Native.Nat.{_+_, _-_, _≤_}
 use native.Mathlib.Omega.{arith}
 use native.Mathlib.Numerals.{add-one}
 use mathlib.Core.Path.{_≡_, refl, sym, ap, _∙_}

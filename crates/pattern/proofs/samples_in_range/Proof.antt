@@ -2,7 +2,7 @@
 use borrow.Author.Needs.{needs}
 use Rattle.pattern.proofs.samples_in_range.Statement.{statement}
 use Rattle.pattern.proofs.samples_in_range.Tie as tie
-use Prim.Native.Nat.{ℕ, _-_, _≤_}
+use Prim.Native.Nat.{_-_, _≤_}
 use native.Mathlib.Omega.{arith}
 use mathlib.Core.Path.{_≡_, refl, sym, ap, _∙_}
 use mathlib.Core.Bool.{true, false}

@@ -1,11 +1,8 @@
 -- `asbru_with_pattern` meets its contract. Assumes nothing.
 use Prim.Native.Nat.{_%_, _^_}
 use native.Mathlib.Omega.{arith}
-use mathlib.Core.Bool.{Bool, true, false, _&&_}
-use mathlib.Core.Path.{_≡_, refl}
 use borrow.Author.Needs.{needs}
 use borrow.Author.Tests.{eq-eqb, ne-eqb, le-leb, lt-leb}
-use lib.Dec.{eqb}
 use Rattle.tablet.proofs.asbru_with_pattern.Statement.{statement}
 use Rattle.tablet.proofs.asbru_with_pattern.Tie as tie
 

@@ -1,5 +1,5 @@
 -- `check_from` meets its contract: the checks before the table's own decide first. Assumes nothing.
-use mathlib.Core.Path.{_≡_, sym, _∙_}
+use mathlib.Core.Path.{sym, _∙_}
 use borrow.Author.Needs.{needs}
 use Rattle.rules.proofs.Outcomes.{then-next, then-stops}
 use Rattle.rules.proofs.Tree.{was-done, was-refused}

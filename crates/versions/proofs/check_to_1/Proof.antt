@@ -1,5 +1,5 @@
 -- `check_to_1` meets its contract: 23 after the table's checks. Assumes nothing.
-use mathlib.Core.Path.{_≡_, sym, _∙_}
+use mathlib.Core.Path.{sym, _∙_}
 use borrow.Author.Needs.{needs}
 use Rattle.rules.proofs.Outcomes.{then-next, then-stops}
 use Rattle.versions.specs.Versions.{checkTo1}

@@ -1,8 +1,7 @@
 -- `number_waited` meets its contract: the byte lies behind the kind of the node with which the plan begins. Assumes nothing.
 use native.Mathlib.Omega.{arith}
-use mathlib.Core.Path.{_≡_, ap, _∙_}
+use mathlib.Core.Path.{ap, _∙_}
 use borrow.Author.Needs.{needs}
-use Prim.Native.Nat.{ℕ, _+_, _*_}
 use denote.Ref.{now}
 use Rattle.rules.specs.Bytes.{byteAt}
 use Rattle.versions.proofs.number_waited.Statement.{statement}

@@ -1,13 +1,8 @@
 -- `put_node` meets its contract: by the plan's body. Assumes nothing.
-use mathlib.Core.Path.{_≡_, sym, ap}
-use mathlib.Core.Bool.{Bool, true, false, cond}
-use mathlib.Core.List.{List, [], _∷_}
-use Prim.Native.Nat.{ℕ, _+_, _≤_}
-use lib.ListN.{length}
+use mathlib.Core.Path.{_≡_, sym}
+use mathlib.Core.List.{[], _∷_}
 use borrow.Author.Needs.{needs}
 use denote.Ref.{now}
-use Rattle.rules.specs.Table.{entry}
-use Rattle.rules.specs.WaitFor.{isLeaf}
 use Rattle.output.proofs.Pieces.{none-yet, as-one}
 use Rattle.versions.specs.Versions.{nodeAs}
 use Rattle.versions.proofs.put_node.Statement.{statement}

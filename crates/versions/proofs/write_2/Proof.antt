@@ -1,12 +1,12 @@
 -- `write_2` meets its contract: header, plans, the number of nodes, nodes. Assumes nothing.
 use native.Mathlib.Omega.{arith}
-use mathlib.Core.Path.{_≡_, ap}
+use mathlib.Core.Path.{_≡_}
 use borrow.Author.Needs.{needs}
-use Prim.Native.Nat.{ℕ, _/_, _%_}
-use mathlib.Core.List.{List, [], _∷_, _++_}
+use Prim.Native.Nat.{ℕ}
+use mathlib.Core.List.{List}
 use denote.Ref.{now}
 use Rattle.output.proofs.Pieces.{and-then, as-one}
-use Rattle.versions.specs.Versions.{headerAs, plansAs, nodesBefore, nodesAs, inVersion2}
+use Rattle.versions.specs.Versions.{nodesBefore, inVersion2}
 use Rattle.versions.proofs.Laid.{length-plans, nodes-within}
 use Rattle.versions.proofs.Turns.{after-header}
 use Rattle.versions.proofs.write_2.Statement.{statement}
