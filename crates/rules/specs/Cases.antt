@@ -712,9 +712,8 @@ ourFormulas =
     ∷ rowWaits (trio 5 (node 4 1 4 ++ node 4 2 3 ++ node 0 0 0 ++ node 0 1 0 ++ node 0 2 0)) "01101001"
     ∷ rowWaits (trio 6 (node 2 1 4 ++ node 4 2 3 ++ node 0 0 0 ++ node 0 1 0 ++ node 1 5 0 ++ node 0 2 0)) "01100000"
     ∷ rowWaits (trio 4 (node 2 1 2 ++ node 5 1 0 ++ node 1 3 0 ++ node 0 2 0)) "01110000"
-    -- 256 nodes, as many as there may be, each under the one before: 255 times 'not', and child 0; and 254 times 'not', and child 1
+    -- 256 nodes, as many as there may be, each under the one before: 255 times 'not', and child 0
     ∷ rowDeep (trio 256 (nots 255 0 ++ node 0 0 0)) "1010"
-    ∷ rowDeep (trio 255 (nots 254 0 ++ node 0 1 0)) "0011"
     ∷ []
 
 -- completion and loss by a formula: 'and' waits for both children, 'or' for one. 'not child 0' is lost while child 0 is neither Rejected

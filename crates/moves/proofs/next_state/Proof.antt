@@ -92,11 +92,11 @@ module _ (c : tie.After-from-byte) where
   dormant = is Inactive parent || inSelection parent
 
 -- the parent's new state: not begun, ended, in execution
-not-begun : (c : tie.Joined1) → Inactive ≡ asked (c .before .before)
+not-begun : (c : tie.Joined1) → asked (c .before .before) ≡ Inactive
 unfolding move
 not-begun c =
     let here = c .before .before in
-    let known : dormant here ≡ true → Inactive ≡ asked here = λ d. sym (leads here refl (rw d refl)) in
+    let known : dormant here ≡ true → asked here ≡ Inactive = λ d. leads here refl (rw d refl) in
     ⊎-elim
     (λ first. known (simp (← c .before .is .ensures, first .taken)))
     (λ second. known (simp (← c .before .is .ensures, second .0 .left, ← second .1 .ensures, second .2 .taken)))
@@ -241,7 +241,7 @@ next-state-spec =
     (λ c κs. search needs)
     (λ c κs. search needs)
     (λ c κs. search needs)
-    not-begun
+    (λ c. simp (not-begun c))
     (λ c κs. search needs)
     (λ c κs. search needs)
     (λ c. simp (under-ended (c .before .before), ← c .before .in-selection2 .ensures, c .if4 .taken))
