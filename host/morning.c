@@ -73,9 +73,12 @@ int main(int argc, char **argv) {
     }
     if (fclose(file) != 0) fail("cannot be written", argv[2]);
 
-    /* where the words of an idle step lead from here */
+    /* where words of 0 lead from here; they are idle only under a table without filter, setup and if-then-else */
     memset(words, 0, sizeof words);
-    uint64_t rest = asbru_rest(ASBRU_RULE_2, table, table_length, states, plans, words, ASBRU_WORD * plans, 1000);
+    uint64_t bound = asbru_bound(table, table_length, words, ASBRU_WORD * plans);
+    need(bound);
+    uint16_t budget = asbru_plan(bound) == 0 ? (uint16_t)asbru_step_of(bound) : 1000;
+    uint64_t rest = asbru_rest(ASBRU_RULE_2, table, table_length, states, plans, words, ASBRU_WORD * plans, budget);
     need(rest);
     printf("%s after %u steps\n", asbru_plan(rest) == 0 ? "at rest" : "still moving", asbru_step_of(rest));
 

@@ -8,7 +8,7 @@
  * not proved, has a text for each state, body, kind of node and number.
  *
  *
- * RULES 1 AND 2
+ * RULE 1 AND RULE 2
  *
  * asbru_step, asbru_rest and asbru_check take the number of a rule first, one of `enum asbru_rule`; any other number is refused before all
  * else. (asbru_bound takes none: what it answers holds by both.) The rules differ in one thing, the children that are lost to a plan with
@@ -40,7 +40,9 @@
  *   5    conditions that are manual, with the same bits; only of present ones
  *   6    conditions that are overridable, with the same bits; only of present ones
  *   7    of a leaf 0. In version 1 the wait number m: how many named children wait-for asks for; at most the number of named children.
- *        In version 2 the number of the first node of the plan's formula
+ *        In version 2 the number of the first node of the plan's formula. Wait-for is asked twice: the plan completes only where it holds
+ *        of the Completed children, and is Aborted where it does not hold of those that are not lost. Lost are Rejected and Aborted ones;
+ *        of a plan with retry-aborted see RULE 1 AND RULE 2 (RULES 3.9, 5.13, 5.14)
  *   in version 2 then the number of nodes k, 16 bits, at most 256, and 4 bytes for each node, numbered from 0; asbru_put_nodes and
  *   asbru_put_node put them:
  *   0    its kind, one of `enum asbru_node`
@@ -52,8 +54,8 @@
  *   An operand has a higher number than the node that asks it, and is there. Each node is used exactly once: it is the first of one plan's
  *   formula, or one operand of one node.
  *
- * States: n bytes, one of `enum asbru_state` for each plan. A treatment starts with all of them ASBRU_INACTIVE. States that are handed in
- *   suit each other (RULES section 7, number 11), and those that asbru_step and asbru_rest leave do so.
+ * States: n bytes, one of `enum asbru_state` for each plan. A treatment starts with all of them ASBRU_INACTIVE and goes on, after a restart
+ *   too, from those that asbru_step or asbru_rest last left. What is handed in must suit (RULES section 7; else number 11), as these do.
  *
  * Words: 4n bytes, a 32-bit word for each plan, which says what is so of that plan in one step. It is put together by `|` from the
  *   ASBRU_ macros below; asbru_put_word puts it at its place. All other bits are 0.
@@ -72,26 +74,29 @@
  * The rules are RULES sections 4 to 6. This is what a host's author may trip over.
  * - Words are of one step: nothing is kept of them. A bit that should count in the next step is set again there.
  * - An absent filter, setup, reactivate or complete always holds, and an absent suspend or abort never does. Bits of an absent condition
- *   move nothing (but see number 12). So a leaf without complete is Completed in the step after its activation, and so is a plan without
- *   complete, with wait number 0 and without wait-for-optional, before it has considered any child (RULES 5.17): a root whose wait number
- *   was forgotten gives an empty treatment that is in order.
+ *   move nothing (but see number 12). So, if nothing aborts or suspends it, a leaf without complete is Completed in the step after its
+ *   activation, and so is a plan without complete, with wait number 0 and without wait-for-optional, before it has considered any child
+ *   (RULES 5.17): such a root, its wait number forgotten, gives an empty treatment that is in order.
  * - Where nothing is known yet, a word is not 0. A Considered plan is Rejected in the step in which its filter is present, does not hold,
- *   is not overridable and is not said to be satisfiable, a Possible one by its setup; so the word of a plan that has them says
- *   ASBRU_SATISFIABLE of both. Of an if-then-else plan a word without ASBRU_IF_SATISFIABLE says that its condition can no longer be
- *   satisfied, and its second child is considered (RULES 6.16).
+ *   is not overridable and is not said to be satisfiable, a Possible one by its setup, and stays so unless a plan above it is retried; so
+ *   the word of a plan that has them says ASBRU_SATISFIABLE of both. That of an if-then-else plan says ASBRU_IF_SATISFIABLE: without it the
+ *   condition can no longer be satisfied, and while both children are Inactive the second is considered. Once one of them is, these bits
+ *   move nothing (RULES 6.16, 6.17).
  * - A manual condition that is not overridden holds while its pattern is satisfied and it is triggered, both in the same word; a trigger
  *   alone does nothing. Override makes an overridable condition hold whatever else the word says (number 12 apart). On a condition that is
- *   not manual a trigger is not looked at, nor is an override on one that is not overridable.
- * - The pick moves something only where an any-order plan may activate a child (RULES 6.7; number 12 reads it always). Where the child of
- *   that rank was not Ready, the pick counts for nothing, and the plan falls back on another Ready child, a named one if there is one
+ *   not manual a trigger is not looked at, nor is an override on one that is not overridable. Of an Activated plan abort counts before
+ *   suspend and suspend before complete; a Suspended one does not complete, and a trigger of complete is lost on it (RULES 5.10, 5.11).
+ * - The pick moves something only where an any-order plan may activate a child (RULES 6.2, 6.7; number 12 reads it always). Where the child
+ *   of that rank was not Ready, the pick counts for nothing, and the plan falls back on another Ready child, a named one if there is one
  *   (RULES 6.8). So a pick of 0, which is that of an empty word, is a pick too, and a child cannot be held back by picking one that is not
  *   Ready. Up to ASBRU_VERSION 6 a plan fell back on the Ready child of lowest rank, named or not: a host that wants that child picks it.
  *   No answer of asbru_check changed by that (RULES 9.14).
  * - ASBRU_NOT counts as it stands, for loss too. A plan that waits for 'not child 0' is Aborted in the step after its activation, before it
  *   has considered any child, since child 0 has not failed; with ASBRU_XOR of two children it is the same (RULES 5.22). Where child 0 need
  *   not be done, leave it out of the formula.
- * - A plan moves at most once in a step, and a child feels its parent's new state in the same step. From all plans Inactive the root is
- *   Activated after four steps and its first children after eight, at the earliest.
+ * - A plan moves at most once in a step, and a child feels its parent's new state in the same step: where a plan ends, Completed too,
+ *   its Activated and Suspended children are Aborted and its Considered, Possible and Ready ones Rejected (RULES 5.4). From all plans
+ *   Inactive the root is Activated after four steps and its first children after eight, at the earliest.
  *
  *
  * HOW LONG A RUN TAKES
@@ -114,11 +119,13 @@
  *   A history is at most ASBRU_MOST_SAMPLES samples, their minutes strictly rising, none after the minute of asking. A sample says whether
  * the underlying pattern is true from its minute until the next sample's, the last one through the minute of asking; at all other minutes
  * it counts as not true. asbru_sample makes one.
- *   What it is to be satisfied and to be satisfiable: RULES 12.6 and 12.8. What is satisfied is satisfiable.
+ *   An annotation is satisfied by a whole run of true minutes that keeps its bounds, cut short only at the earliest start or the latest
+ * finish: a run that is still too long does not satisfy it (RULES 12.6). Satisfiable: RULES 12.8. What is satisfied is satisfiable.
  *   So a host that asks every condition's pattern and puts the answers into words by asbru_with_pattern hands in no word that number 12
  * refuses for being satisfied but not satisfiable. A host that counts from now hands in the minute of asking as the reference point: where
- * nothing may finish after it, what is not satisfied is not satisfiable either, since the past stays as it is, and a filter or setup then
- * Rejects its plan.
+ * nothing may finish after it, what is not satisfied is not satisfiable either, since the past stays as it is, and at the first no a filter
+ * or setup that is not overridable Rejects its plan, and an if-then-else plan takes its second child. What means 'as soon as it has held'
+ * is counted from a fixed minute, with the finish open (RULES 12.11).
  *
  *
  * MOVING TABLES
@@ -149,7 +156,7 @@
  * states may not. Every call returns. A call of asbru_step, asbru_rest or asbru_check takes about 26 KiB of stack, whatever it is handed,
  * and in version 2 up to 16 KiB more, the deeper a formula goes (256 nodes at most). Its time grows with n and k, of asbru_rest with both
  * for each step taken (at most 65535), of asbru_check with the record's length, of asbru_pattern with the number of samples. asbru_bound
- * makes no steps: it takes time that grows with n and k, and as a move does about 6 KiB; the calls about patterns take less than 1 KiB.
+ * makes no steps: its time grows with n and k, and it takes about 6 KiB of stack, as a move does; the calls about patterns less than 1 KiB.
  */
 #ifndef ASBRU_H
 #define ASBRU_H
@@ -182,13 +189,13 @@ enum asbru_size {
     ASBRU_NO_PARENT = 65535
 };
 
-/* Which children are lost to a plan with retry-aborted: see RULES 1 AND 2. */
+/* Which children are lost to a plan with retry-aborted: see RULE 1 AND RULE 2. */
 enum asbru_rule {
     ASBRU_RULE_1 = 1, /* Rejected and Aborted ones: for records of before */
     ASBRU_RULE_2 = 2  /* Rejected ones only: for what is treated now */
 };
 
-/* Byte 2 of a plan's entry. */
+/* Byte 2 of a plan's entry: which children it considers and activates, and when (RULES 6.4 to 6.8, 6.13 to 6.17). */
 enum asbru_body {
     ASBRU_LEAF,
     ASBRU_SEQUENTIAL,
@@ -204,9 +211,9 @@ enum asbru_body {
 
 /* Bits of byte 3. A leaf has neither of the first two, a body from ASBRU_ON_ABORT on not the first, plan 0 not the third. */
 enum asbru_flag {
-    ASBRU_RETRY_ABORTED = 1,
-    ASBRU_WAIT_FOR_OPTIONAL = 2,
-    ASBRU_NAMED = 4 /* in the parent's wait-for */
+    ASBRU_RETRY_ABORTED = 1, /* its Aborted children are considered anew (RULES 6.3 to 6.7) */
+    ASBRU_WAIT_FOR_OPTIONAL = 2, /* it completes only when all its children are Completed, Aborted or Rejected (RULES 5.14, but see 5.19) */
+    ASBRU_NAMED = 4 /* counted by the parent's m or ASBRU_AT_LEAST, and first in the fallback (RULES 6.8); ASBRU_CHILD needs it not */
 };
 
 /* Byte 0 of a node: what it asks of some children of the plan in whose formula it stands, and what its a and b are. */
@@ -314,7 +321,7 @@ enum asbru_answer {
     ASBRU_REFUSED_WAIT = 9,
     /* the states are not n bytes or the words not 4n, of asbru_bound the words not 4n; never of asbru_check */
     ASBRU_REFUSED_LENGTHS = 10,
-    /* [plan] a state is above 8 or breaks a rule, together with the states of plans before it (so of two children the second); only of
+    /* [plan] a state is above 8 or does not suit those of the plans before it (RULES 7.5; so of two children the second); only of
        asbru_step and asbru_rest */
     ASBRU_REFUSED_STATE = 11,
     /* [plan; of asbru_check the step too] a word has an unused bit, a wrong pick (in a record: any pick bit), ASBRU_IF_SATISFIED without
@@ -341,8 +348,8 @@ enum asbru_answer {
     /* the annotation to be normalised admits no interval */
     ASBRU_REFUSED_NO_INTERVAL = 21,
     /* [0, or in the plan's place a node; looked for after 8 and before 9] of a table of version 2: with 0, there are more than 256 nodes,
-       or byte 7 of a plan with children names a node that is not there; else the lowest node that is not as BUFFERS asks, ranks last
-       (RULES 10.22) */
+       or byte 7 of a plan with children names a node that is not there; else the lowest node, which can be 0 too, that is not as BUFFERS
+       asks, ranks last; the number of an ASBRU_AT_LEAST is 9's (RULES 10.22) */
     ASBRU_REFUSED_FORMULA = 22,
     /* a node of the table, which passes all checks above, is of another kind than ASBRU_AT_LEAST; only of asbru_to_version_1 */
     ASBRU_REFUSED_NODE_KIND = 23,
@@ -362,7 +369,7 @@ uint64_t asbru_step(uint32_t rule, const uint8_t *table, size_t table_length, ui
  * Steps by a rule and under the same words until one more would change nothing, but no more steps than the budget. ASBRU_DONE: plan 0
  * says that it rested, and step after how many steps, which is the least such number and at most the budget; plan 1 says that it is still
  * moving, and step is the budget. `states` then holds the states after that many steps. The states between are not shown, and a record
- * needs them: a host that keeps one makes single steps.
+ * needs them: a host that keeps one makes single steps, and hands in a copy of its states where it only looks ahead.
  */
 uint64_t asbru_rest(uint32_t rule, const uint8_t *table, size_t table_length, uint8_t *states, size_t states_length,
                     const uint8_t *words, size_t words_length, uint16_t budget);
@@ -408,8 +415,9 @@ uint64_t asbru_normalise(int64_t annotation[ASBRU_BOUNDS]);
 
 /*
  * A word with what asbru_pattern answered for a condition, one of `enum asbru_condition` or ASBRU_IF: the bit for satisfied and, of
- * ASBRU_FILTER, ASBRU_SETUP and ASBRU_IF, the bit for satisfiable; all other bits stay. Where the answer's number is not ASBRU_DONE or the
- * condition is none of these, all bits stay. Of the answer only its number and bits 16 and 17, the plan's lowest two, are read.
+ * ASBRU_FILTER, ASBRU_SETUP and ASBRU_IF, the bit for satisfiable, set or cleared; all other bits stay. Where the answer's number is not
+ * ASBRU_DONE or the condition is none of these, all bits stay: so begin with the word of which nothing is known (WHAT WORDS DO), not with
+ * 0. Of the answer only its number and bits 16 and 17, the plan's lowest two, are read.
  */
 uint32_t asbru_with_pattern(uint32_t word, uint32_t condition, uint64_t answer);
 

@@ -61,7 +61,7 @@ static inline const char *asbru_number_text(unsigned number) {
     case ASBRU_REFUSED_TABLE_VERSION: return "the table's version is neither 1 nor 2, or not the one that it is to be moved from";
     case ASBRU_REFUSED_TABLE_COUNT: return "the table does not count 1 to 256 plans, or byte 7 of its header is not 0";
     case ASBRU_REFUSED_TABLE_LENGTH: return "the table's length does not fit the plans and nodes that it counts";
-    case ASBRU_REFUSED_PARENT: return "its parent is neither the plan before it nor above that one, or it is a 65th child";
+    case ASBRU_REFUSED_PARENT: return "its parent is neither the plan before it nor above that one (of plan 0: is not 65535), or it is a 65th child";
     case ASBRU_REFUSED_UNDEFINED: return "its body is above 8, or its entry has a bit without a meaning";
     case ASBRU_REFUSED_UNFIT:
         return "its body does not fit its children or its retry-aborted, an absent condition is manual or overridable, it is the root "
