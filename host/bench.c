@@ -8,8 +8,9 @@
  *   bench [MOST STEPS]
  *
  * host/places compiles it with -DWITHOUT_RULE for an archive of ASBRU_VERSION 1 or 2, whose functions take no rule. Such an archive knows
- * rule 1 only, and here the two agree: no plan is named, and all wait numbers are 0. For one without asbru_pattern, of a version before 4,
- * it compiles it with -DWITHOUT_PATTERN. Of one that refuses tables of version 2 the rows on them are left out.
+ * rule 1 only, and here the two agree: no plan is named, and all wait numbers are 0. For one of 3 to 8, whose asbru_step takes no causes,
+ * it compiles it with -DWITHOUT_CAUSES; plain C tells them all the same. For one without asbru_pattern, of a version before 4, it compiles
+ * it with -DWITHOUT_PATTERN. Of one that refuses tables of version 2 the rows on them are left out.
  */
 #define _POSIX_C_SOURCE 199309L
 #include <stdio.h>
@@ -83,7 +84,7 @@ static void make_words(uint8_t *words, unsigned n, const uint16_t *parents) {
     }
 }
 
-typedef uint64_t Step(uint32_t, const uint8_t *, size_t, uint8_t *, size_t, const uint8_t *, size_t);
+typedef uint64_t Step(uint32_t, const uint8_t *, size_t, uint8_t *, size_t, const uint8_t *, size_t, uint8_t *, size_t);
 typedef uint64_t Check(uint32_t, const uint8_t *, size_t, const uint8_t *, size_t);
 
 #ifdef WITHOUT_RULE
@@ -91,8 +92,8 @@ uint64_t old_step(const uint8_t *, size_t, uint8_t *, size_t, const uint8_t *, s
 uint64_t old_check(const uint8_t *, size_t, const uint8_t *, size_t) __asm__("asbru_check");
 
 static uint64_t library_step(uint32_t rule, const uint8_t *t, size_t t_length, uint8_t *s, size_t s_length, const uint8_t *w,
-                             size_t w_length) {
-    (void)rule;
+                             size_t w_length, uint8_t *c, size_t c_length) {
+    (void)rule, (void)c, (void)c_length;
     return old_step(t, t_length, s, s_length, w, w_length);
 }
 
@@ -100,6 +101,16 @@ static uint64_t library_check(uint32_t rule, const uint8_t *t, size_t t_length, 
     (void)rule;
     return old_check(t, t_length, r, r_length);
 }
+#elif defined WITHOUT_CAUSES
+uint64_t old_step(uint32_t, const uint8_t *, size_t, uint8_t *, size_t, const uint8_t *, size_t) __asm__("asbru_step");
+
+static uint64_t library_step(uint32_t rule, const uint8_t *t, size_t t_length, uint8_t *s, size_t s_length, const uint8_t *w,
+                             size_t w_length, uint8_t *c, size_t c_length) {
+    (void)c, (void)c_length;
+    return old_step(rule, t, t_length, s, s_length, w, w_length);
+}
+
+#define library_check asbru_check
 #else
 #define library_step asbru_step
 #define library_check asbru_check
@@ -115,10 +126,10 @@ static double time_check(Check *check, const uint8_t *table, size_t length, unsi
 
 /* One call for each step of the record. */
 static double time_step(Step *step, const uint8_t *table, size_t length, unsigned n, const uint8_t *record, unsigned steps) {
-    uint8_t states[MOST_PLANS] = {0};
+    uint8_t states[MOST_PLANS] = {0}, causes[MOST_PLANS];
     double begun = nanoseconds();
     for (unsigned i = 0; i < steps; i++) {
-        uint64_t answer = step(ASBRU_RULE_2, table, length, states, n, record + 8 + 5 * (size_t)n * i, 4 * (size_t)n);
+        uint64_t answer = step(ASBRU_RULE_2, table, length, states, n, record + 8 + 5 * (size_t)n * i, 4 * (size_t)n, causes, n);
         need(answer == 0, "a step is refused");
     }
     return nanoseconds() - begun;
@@ -130,7 +141,7 @@ static double least(double a, double b) {
 
 /* A table of n plans, and a record of so many steps under it, which the caller frees. */
 static uint8_t *make_record(uint8_t *table, unsigned n, unsigned steps) {
-    uint8_t states[MOST_PLANS] = {0};
+    uint8_t states[MOST_PLANS] = {0}, causes[MOST_PLANS];
     uint16_t parents[MOST_PLANS];
     make_table(table, n, parents);
     uint8_t *record = (uint8_t *)malloc(8 + 5 * (size_t)n * steps);
@@ -140,7 +151,8 @@ static uint8_t *make_record(uint8_t *table, unsigned n, unsigned steps) {
     for (unsigned i = 0; i < steps; i++) {
         uint8_t *words = record + 8 + 5 * (size_t)n * i;
         make_words(words, n, parents);
-        need(plain_step(ASBRU_RULE_2, table, 8 + 8 * (size_t)n, states, n, words, 4 * (size_t)n) == 0, "a step is refused");
+        uint64_t answer = plain_step(ASBRU_RULE_2, table, 8 + 8 * (size_t)n, states, n, words, 4 * (size_t)n, causes, n);
+        need(answer == 0, "a step is refused");
         memcpy(words + 4 * (size_t)n, states, n);
     }
     return record;

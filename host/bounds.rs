@@ -34,7 +34,7 @@ use dice::Dice;
 use formula_cases::version_of;
 use reference::{answer, Before, Plan, DONE, NO_FIGURE, STILL_MOVING};
 use std::process::ExitCode;
-use talk::Options;
+use talk::{Left, Options};
 use tally::{chosen, class, Lines, Sizes};
 
 /// So many trees keep the premises if it is not said, and from so many on a run is held to what it must meet.
@@ -108,7 +108,7 @@ enum Sent {
 }
 
 /// A call, and what must be answered and left.
-type Expected = (Ask, u64, Vec<u8>);
+type Expected = (Ask, u64, Left);
 
 impl talk::Call for Ask {
     fn request(&self) -> Vec<u8> {
@@ -237,29 +237,34 @@ fn ask_about_kept(dice: &mut Dice, number: u64) -> [Expected; 5] {
     [bound, whole(1), short(1), whole(2), short(2)]
 }
 
-/// The states from the first to those at rest, or up to where the figure is passed: the same by both rules, since nobody retries.
-fn path(tree: &Tree) -> Vec<Vec<u8>> {
+/// The states after so many steps of a run, and the causes of the last of them.
+struct After {
+    states: Vec<u8>,
+    causes: Vec<u8>,
+}
+
+/// From the first states to those at rest, or up to where the figure is passed: the same by both rules, since nobody retries.
+fn path(tree: &Tree) -> Vec<After> {
     let Tree { plans, words, states, .. } = tree;
-    let mut path = vec![states.clone()];
+    let mut path = vec![After { states: states.clone(), causes: vec![reference::UNMOVED; states.len()] }];
     while path.len() <= figure(plans.len()) + 1 {
-        let now = &path[path.len() - 1];
-        let next = reference::new_states(&Before { rule: reference::Rule::New, plans, states: now, words });
+        let now = &path[path.len() - 1].states;
+        let before = Before { rule: reference::Rule::New, plans, states: now, words };
+        let next = reference::new_states(&before);
         if next == *now {
             break;
         }
-        path.push(next);
+        path.push(After { causes: reference::causes(&before), states: next });
     }
     path
 }
 
 /// What a run along this path answers and leaves.
-fn at_end_of(path: &[Vec<u8>], budget: usize) -> (u64, Vec<u8>) {
+fn at_end_of(path: &[After], budget: usize) -> (u64, Left) {
     let steps = path.len() - 1;
-    if steps <= budget {
-        (answer(DONE, 0, steps), path[steps].clone())
-    } else {
-        (answer(DONE, STILL_MOVING, budget), path[budget].clone())
-    }
+    let answer = if steps <= budget { answer(DONE, 0, steps) } else { answer(DONE, STILL_MOVING, budget) };
+    let After { states, causes } = &path[steps.min(budget)];
+    (answer, requests::left(states.clone(), causes.clone()))
 }
 
 const SUSPENDS: &str = "suspend of a plan holds";
@@ -329,7 +334,7 @@ fn met_in_run(tree: &Tree, rule: u32, steps: usize) -> Vec<String> {
 }
 
 /// Of a tree that moves at all.
-fn met_in_tree(tree: &Tree, path: &[Vec<u8>]) -> Vec<String> {
+fn met_in_tree(tree: &Tree, path: &[After]) -> Vec<String> {
     if path.len() == 1 {
         return vec![];
     }
@@ -359,8 +364,8 @@ fn met_in_tree(tree: &Tree, path: &[Vec<u8>]) -> Vec<String> {
 }
 
 /// The states of a plan along a path, each as often as it comes to it.
-fn way_of(path: &[Vec<u8>], p: usize) -> Vec<u8> {
-    let mut way: Vec<u8> = path.iter().map(|states| states[p]).collect();
+fn way_of(path: &[After], p: usize) -> Vec<u8> {
+    let mut way: Vec<u8> = path.iter().map(|after| after.states[p]).collect();
     way.dedup();
     way
 }
@@ -402,9 +407,9 @@ fn ask_about_broken(dice: &mut Dice, number: u64, broken: Broken) -> [Expected; 
     let tree = Tree::new(dice, number, question);
     let (rule, _) = cases::any_rule(dice);
     let call = tree.run(rule, LARGEST_BUDGET);
-    let (at_end, left) = call.ask_reference();
+    let (at_end, states, causes) = call.ask_reference();
     let met = met_in_broken(&tree, rule, at_end);
-    let run = (Ask { tree: number, sent: Sent::Run(call), met }, at_end, left);
+    let run = (Ask { tree: number, sent: Sent::Run(call), met }, at_end, requests::left(states, causes));
     [tree.bound(answer(DONE, NO_FIGURE, 0), vec![]), run]
 }
 

@@ -62,10 +62,10 @@ static inline void drop(Buffer *b) {
     free(b->before);
 }
 
-/* The answer, what the call leaves in the buffer that it may write, and whether all else is as it was. */
-static inline void reply(uint64_t answer, const Buffer *left, int as_it_was) {
+/* The answer, what the call leaves in the buffers that it may write, so many, and whether all else is as it was. */
+static inline void reply(uint64_t answer, const Buffer *const *left, unsigned count, int as_it_was) {
     for (unsigned k = 0; k < 8; k++) putchar((int)(answer >> 8 * k & 0xFF));
-    fwrite(left->bytes, 1, left->length, stdout);
+    for (unsigned k = 0; k < count; k++) fwrite(left[k]->bytes, 1, left[k]->length, stdout);
     putchar(as_it_was);
     need(fflush(stdout) == 0, "the answer cannot be sent");
 }

@@ -1,8 +1,8 @@
 //! Random calls for the differential tester.
 //!
 //! A `Maker` keeps a pool of live situations: a good table and states that a run of steps has led
-//! to. Most calls go on from one of them; some spoil a table, states, words or a record first. All
-//! choices come from one seeded `Dice`, so a seed and a call's number name a call for good.
+//! to. Most calls go on from one of them; some spoil a table, states, words, causes or a record first. All
+//! choices come from seeded `Dice`, so a seed and a call's number name a call for good.
 
 use crate::dice::Dice;
 use crate::formula_cases::{self, Manner, ALL_MANNERS};
@@ -29,6 +29,8 @@ pub struct Call {
     pub states: Vec<u8>,
     /// The record for a check.
     pub words: Vec<u8>,
+    /// What stands in the causes before; empty for a check.
+    pub causes: Vec<u8>,
     /// 0 unless the kind is rest.
     pub budget: u16,
     /// The situation in the pool that goes on from the answer of this call.
@@ -36,15 +38,16 @@ pub struct Call {
 }
 
 impl Call {
-    /// The reference's answer and the states that it leaves.
-    pub fn ask_reference(&self) -> (reference::Answer, Vec<u8>) {
-        let mut states = self.states.clone();
+    /// The reference's answer, and the states and the causes that it leaves.
+    pub fn ask_reference(&self) -> (reference::Answer, Vec<u8>, Vec<u8>) {
+        let Call { rule, table, words, .. } = self;
+        let (mut states, mut causes) = (self.states.clone(), self.causes.clone());
         let answer = match self.kind {
-            Kind::Step => reference::step(self.rule, &self.table, &mut states, &self.words),
-            Kind::Rest => reference::rest_jumping(self.rule, &self.table, &mut states, &self.words, self.budget),
-            Kind::Check => reference::check(self.rule, &self.table, &self.words),
+            Kind::Step => reference::step(*rule, table, &mut states, words, &mut causes),
+            Kind::Rest => reference::rest_jumping(*rule, table, &mut states, words, &mut causes, self.budget),
+            Kind::Check => reference::check(*rule, table, words),
         };
-        (answer, states)
+        (answer, states, causes)
     }
 
     /// The same call by another rule.
@@ -606,6 +609,7 @@ pub fn mood(dice: &mut Dice) -> Mood {
 const CALM: usize = 0;
 const INTERRUPTED: usize = 2;
 const ABORTING: usize = 3;
+const ANYTHING: usize = 6;
 const LOSING: usize = 8;
 
 /// One in which many plans are aborted.
@@ -627,7 +631,7 @@ fn mood_of(number: usize) -> Mood {
         // Nothing happens.
         5 => ([0, 0, 0, 0, 0, 0], 95, 0, 0),
         // Anything.
-        6 => ([50; 6], 70, 50, 50),
+        ANYTHING => ([50; 6], 70, 50, 50),
         // Slow selection, interruptions, few ends.
         LOSING => ([50, 50, 25, 60, 5, 5], 99, 80, 5),
         // By hand.
@@ -720,7 +724,7 @@ fn change_word(dice: &mut Dice, words: &mut [u8], change: impl Fn(&mut Dice, u32
     words[at..at + 4].copy_from_slice(&change(dice, word).to_le_bytes());
 }
 
-/// Another length for states or words: none, a few bytes fewer or more, or twice as many.
+/// Another length for states, words or causes: none, a few bytes fewer or more, or twice as many.
 pub fn spoil_slice_length(dice: &mut Dice, bytes: &mut Vec<u8>) {
     match dice.below(5) {
         0 => bytes.clear(),
@@ -1108,6 +1112,8 @@ const POOL: usize = 64;
 
 pub struct Maker {
     dice: Dice,
+    /// For the sake of the causes alone: whatever is drawn from these, all other choices stay as they are.
+    dice_of_causes: Dice,
     pool: Vec<Situation>,
 }
 
@@ -1115,10 +1121,18 @@ impl Maker {
     pub fn new(seed: u64) -> Maker {
         let mut dice = Dice::new(seed);
         let pool = (0..POOL).map(|_| fresh_situation(&mut dice)).collect();
-        Maker { dice, pool }
+        Maker { dice, dice_of_causes: Dice::new(!seed), pool }
     }
 
     pub fn next_call(&mut self) -> Call {
+        let mut call = if self.dice_of_causes.percent(4) { pressed_call(&mut self.dice_of_causes) } else { self.any_call() };
+        if call.kind != Kind::Check {
+            lend_causes(&mut self.dice_of_causes, &mut call);
+        }
+        call
+    }
+
+    fn any_call(&mut self) -> Call {
         let mut call = match self.dice.below(100) {
             0..=54 => self.step_call(),
             55..=74 => self.rest_call(),
@@ -1248,15 +1262,9 @@ impl Maker {
         let situation = &self.pool[chosen];
         let dice = &mut self.dice;
         let mood = if dice.percent(20) { mood(dice) } else { situation.mood.clone() };
-        Call {
-            kind,
-            rule: any_rule(dice).0,
-            table: situation.table.clone(),
-            states: situation.states.clone(),
-            words: bytes_of_words(&good_words(dice, &situation.plans, &mood)),
-            budget: 0,
-            continues: None,
-        }
+        let (rule, _) = any_rule(dice);
+        let words = bytes_of_words(&good_words(dice, &situation.plans, &mood));
+        Call { kind, ..step_of(rule, situation.table.clone(), situation.states.clone(), words) }
     }
 }
 
@@ -1264,12 +1272,31 @@ pub fn any_rule(dice: &mut Dice) -> (u32, Rule) {
     dice.one_of(&RULES)
 }
 
-pub fn check_of(rule: u32, table: Vec<u8>, record: Vec<u8>) -> Call {
-    Call { kind: Kind::Check, rule, table, states: vec![], words: record, budget: 0, continues: None }
+/// Stands in causes that nothing was drawn for. It is no cause: who leaves it there is seen.
+const NO_CAUSE: u8 = 0xC5;
+
+fn step_of(rule: u32, table: Vec<u8>, states: Vec<u8>, words: Vec<u8>) -> Call {
+    let causes = vec![NO_CAUSE; states.len()];
+    Call { kind: Kind::Step, rule, table, states, words, causes, budget: 0, continues: None }
 }
 
 pub fn rest_of(rule: u32, table: Vec<u8>, states: Vec<u8>, words: Vec<u8>, budget: u16) -> Call {
-    Call { kind: Kind::Rest, rule, table, states, words, budget, continues: None }
+    Call { kind: Kind::Rest, budget, ..step_of(rule, table, states, words) }
+}
+
+pub fn check_of(rule: u32, table: Vec<u8>, record: Vec<u8>) -> Call {
+    Call { kind: Kind::Check, ..step_of(rule, table, vec![], record) }
+}
+
+/// Causes as a host may lend them: whatever bytes, one for each plan. At times they are of another length; of what else is wrong with
+/// the call each number then comes up. A call that a situation goes on from is not refused, or its answer would move later choices.
+fn lend_causes(dice: &mut Dice, call: &mut Call) {
+    call.causes = (0..whole_entries(&call.table)).map(|_| dice.byte()).collect();
+    if call.continues.is_none() && dice.percent(7) {
+        spoil_slice_length(dice, &mut call.causes);
+        let number = dice.one_of(&numbers_of(call.kind));
+        spoil_for(dice, number, call);
+    }
 }
 
 /// A run that mostly goes round in a circle: leaves that are aborted and retried again and again, and
@@ -1322,7 +1349,7 @@ fn turning_call(dice: &mut Dice) -> Call {
         1 => spoil_siblings(dice, &mut states, &plans),
         _ => {}
     }
-    Call { kind: Kind::Step, rule: any_rule(dice).0, table, states, words, budget: 0, continues: None }
+    step_of(any_rule(dice).0, table, states, words)
 }
 
 /// A step of plans in execution, most of which retry, over children that have mostly ended badly.
@@ -1334,7 +1361,7 @@ fn losing_call(dice: &mut Dice) -> Call {
     let states = likely_states(dice, &plans, &of_leaves, &of_others);
     let mood = mood_of(dice.one_of(&[INTERRUPTED, LOSING]));
     let words = bytes_of_words(&good_words(dice, &plans, &mood));
-    Call { kind: Kind::Step, rule: any_rule(dice).0, table, states, words, budget: 0, continues: None }
+    step_of(any_rule(dice).0, table, states, words)
 }
 
 /// A step of plans in execution that mostly are told to complete, where formulas of version 2 decide, over children that have mostly ended.
@@ -1347,7 +1374,7 @@ fn deciding_call(dice: &mut Dice) -> Call {
     let calm = mood_of(CALM);
     let words: Vec<u32> = good_words(dice, &plans, &calm).iter().map(|word| word | told).collect();
     let words = bytes_of_words(&words);
-    Call { kind: Kind::Step, rule: any_rule(dice).0, table, states, words, budget: 0, continues: None }
+    step_of(any_rule(dice).0, table, states, words)
 }
 
 /// A step of any-order plans in execution, over children of which about half are Ready, so that by chance the pick is one of them or not.
@@ -1357,14 +1384,30 @@ fn choosing_call(dice: &mut Dice) -> Call {
     let of_leaves = dice.one_of(&[[3, 3, 2, 2], [3, 3, 6, 8], [3, 3, 3, 7]]);
     let states = likely_states(dice, &plans, &of_leaves, &[4]);
     let words = bytes_of_words(&good_words(dice, &plans, &mood_of(CALM)));
-    Call { kind: Kind::Step, rule: any_rule(dice).0, table, states, words, budget: 0, continues: None }
+    step_of(any_rule(dice).0, table, states, words)
+}
+
+/// A step in which much moves a plan at once: all conditions are there and hold as coins fall, most plans are in execution, and of the
+/// leaves many are lost. At times the root is in selection: elsewhere it seldom has a filter or a setup.
+fn pressed_call(dice: &mut Dice) -> Call {
+    let n = dice.between(3, 6);
+    let shape = dice.one_of(&[Shape::Deep, Shape::Mixed, Shape::Bushy]);
+    let parents = parents(dice, n, shape, reference::MOST_CHILDREN);
+    let style = Style { present: 100, manual: 0, overridable: 0, plain_root: 0, ..style_of_losses(dice) };
+    let table = table_of(dice, &parents, &style);
+    let plans = read_good_table(&table);
+    let of_leaves = dice.one_of(&[[7, 8, 1, 2], [7, 8, 4, 5]]);
+    let of_others = dice.one_of(&[[4, 4, 4, 5], [4, 4, 4, 5], [4, 4, 1, 2]]);
+    let states = likely_states(dice, &plans, &of_leaves, &of_others);
+    let words = bytes_of_words(&good_words(dice, &plans, &mood_of(ANYTHING)));
+    step_of(any_rule(dice).0, table, states, words)
 }
 
 /// A step under formulas that are broken somewhere.
 fn broken_formula_call(dice: &mut Dice) -> Call {
     let table = table_of_broken_formulas(dice);
     let n = whole_entries(&table);
-    Call { kind: Kind::Step, rule: any_rule(dice).0, table, states: vec![0; n], words: vec![0; 4 * n], budget: 0, continues: None }
+    step_of(any_rule(dice).0, table, vec![0; n], vec![0; 4 * n])
 }
 
 /// A long run to rest: down a deep tree and up again.

@@ -3,18 +3,19 @@
  * host/bounds.rs to compare. With the argument `plain` the calls go to host/plain.c instead. All numbers are little-endian.
  *
  *   call:   kind (1 byte: 1 step, 2 rest, 3 check, 4 to version 1, 5 to version 2, 6 bound), the rule (4 bytes), the lengths of table,
- *           states and words (4 bytes each; of a check the words are the record; of a check and of a bound the states are empty; of a
- *           move the states are what stands in the output, and the words are empty), the budget (2 bytes), then the bytes of table,
- *           states and words
- *   answer: the answer (8 bytes), the states, and 1 if the bytes around all buffers are as they were, and those of table and words
+ *           states, words and causes (4 bytes each; of a check the words are the record; of a check and of a bound the states are empty;
+ *           of a move the states are what stands in the output, and the words are empty; but of a step and a run the causes are empty),
+ *           the budget (2 bytes), then the bytes of table, states and words, and those that stand in the causes
+ *   answer: the answer (8 bytes), the states, the causes, and 1 if the bytes around all buffers are as they were, and those of table and
+ *           words
  */
 #include "asbru.h"
 #include "buffers.h"
 #include "plain.h"
 
 typedef struct {
-    uint64_t (*step)(uint32_t, const uint8_t *, size_t, uint8_t *, size_t, const uint8_t *, size_t);
-    uint64_t (*rest)(uint32_t, const uint8_t *, size_t, uint8_t *, size_t, const uint8_t *, size_t, uint16_t);
+    uint64_t (*step)(uint32_t, const uint8_t *, size_t, uint8_t *, size_t, const uint8_t *, size_t, uint8_t *, size_t);
+    uint64_t (*rest)(uint32_t, const uint8_t *, size_t, uint8_t *, size_t, const uint8_t *, size_t, uint8_t *, size_t, uint16_t);
     uint64_t (*check)(uint32_t, const uint8_t *, size_t, const uint8_t *, size_t);
     uint64_t (*to_version_1)(const uint8_t *, size_t, uint8_t *, size_t);
     uint64_t (*to_version_2)(const uint8_t *, size_t, uint8_t *, size_t);
@@ -27,19 +28,21 @@ int main(int argc, char **argv) {
     const Calls *calls = argc > 1 && strcmp(argv[1], "plain") == 0 ? &plain : &library;
     for (int kind; (kind = getchar()) != EOF;) {
         uint32_t rule = (uint32_t)number(4);
-        size_t lengths[3];
-        for (int k = 0; k < 3; k++) lengths[k] = (size_t)number(4);
+        size_t lengths[4];
+        for (int k = 0; k < 4; k++) lengths[k] = (size_t)number(4);
         uint16_t budget = (uint16_t)number(2);
-        Buffer table = take(lengths[0]), states = take(lengths[1]), words = take(lengths[2]);
-        /* an empty output may be NULL, and here it is */
-        uint8_t *output = states.length ? states.bytes : NULL;
+        Buffer table = take(lengths[0]), states = take(lengths[1]), words = take(lengths[2]), causes = take(lengths[3]);
+        /* an empty output may be NULL, and so may empty causes, and here they are */
+        uint8_t *output = states.length ? states.bytes : NULL, *why = causes.length ? causes.bytes : NULL;
         uint64_t answer = 0;
         switch (kind) {
         case 1:
-            answer = calls->step(rule, table.bytes, table.length, states.bytes, states.length, words.bytes, words.length);
+            answer = calls->step(rule, table.bytes, table.length, states.bytes, states.length, words.bytes, words.length, why,
+                                 causes.length);
             break;
         case 2:
-            answer = calls->rest(rule, table.bytes, table.length, states.bytes, states.length, words.bytes, words.length, budget);
+            answer = calls->rest(rule, table.bytes, table.length, states.bytes, states.length, words.bytes, words.length, why,
+                                 causes.length, budget);
             break;
         case 3:
             answer = calls->check(rule, table.bytes, table.length, words.bytes, words.length);
@@ -56,9 +59,10 @@ int main(int argc, char **argv) {
         default:
             need(0, "no such call");
         }
-        int as_it_was = guarded(&table) && guarded(&states) && guarded(&words) && unchanged(&table) && unchanged(&words);
-        reply(answer, &states, as_it_was);
-        drop(&table), drop(&states), drop(&words);
+        int around = guarded(&table) && guarded(&states) && guarded(&words) && guarded(&causes);
+        const Buffer *left[2] = {&states, &causes};
+        reply(answer, left, 2, around && unchanged(&table) && unchanged(&words));
+        drop(&table), drop(&states), drop(&words), drop(&causes);
     }
     return 0;
 }

@@ -8,13 +8,15 @@
 //! Status 0: N calls of step, rest and check, then `PER_MOVE` times fewer that move tables and `PER_BOUND` times fewer
 //! that ask how long a run can go on were made without a difference and without a move of a plan that the rules do not
 //! allow, and, from `REACH_FROM` calls on or as many as `--reach-from` says, they reached every answer number of the
-//! library's, every move of a plan that the rules allow, and all that turns.rs wants of the bodies 5 to 8, picks.rs of
-//! the choices in any order, losses.rs of the two rules, formulas.rs of the tables of version 2, move_reached.rs of the
-//! moves of tables and bound_reached.rs of the bounds. Status 1: anything else.
+//! library's, every move of a plan that the rules allow with every cause that it can have, and all else that causes.rs
+//! wants, turns.rs of the bodies 5 to 8, picks.rs of the choices in any order, losses.rs of the two rules, formulas.rs of
+//! the tables of version 2, move_reached.rs of the moves of tables and bound_reached.rs of the bounds. Status 1: anything
+//! else.
 
 mod bound_cases;
 mod bound_reached;
 mod cases;
+mod causes;
 mod dice;
 mod formula_cases;
 mod formulas;
@@ -36,9 +38,9 @@ use cases::{Call, Kind, Maker};
 use dice::{hex, Dice};
 use move_cases::Move;
 use reference::Rule;
-use requests::{kind_number, request};
+use requests::{kind_number, left, request};
 use std::process::ExitCode;
-use talk::{number_of, Options};
+use talk::{number_of, Left, Options};
 use tally::{class, Lines, Sizes};
 
 type Asked = talk::Asked<Call>;
@@ -74,13 +76,13 @@ fn compare_calls(options: &Options) -> Result<(), String> {
     // the situations in the pool go on from the reference's answers
     let next = || {
         let call = maker.next_call();
-        let (answer, states) = call.ask_reference();
+        let (answer, states, causes) = call.ask_reference();
         maker.go_on(&call, &states);
-        (call, answer, states)
+        (call, answer, left(states, causes))
     };
     talk::compare(options, next, |asked| counts.add(asked))?;
     counts.print();
-    counts.nothing_impossible()?;
+    counts.told.nothing_impossible()?;
     if options.asks_for_all() {
         counts.all_reached()?;
     }
@@ -93,7 +95,7 @@ fn compare_moves(options: &Options) -> Result<(), String> {
     let next = |dice: &mut Dice| {
         let call = move_cases::next_move(dice);
         let (answer, output) = call.ask_reference();
-        (call, answer, output)
+        (call, answer, vec![output])
     };
     compare_apart(options, next, |asked| move_reached::count(&mut reached, &asked.call, asked.answer))?;
     reached.are_right("moves of tables", &move_reached::wanted(), || options.asks_for_all())
@@ -114,7 +116,7 @@ fn compare_bounds(options: &Options) -> Result<(), String> {
 /// From dice of their own: the calls of other parts stay as they are, whatever is asked here.
 fn compare_apart<C: talk::Call>(
     options: &Options,
-    next: impl Fn(&mut Dice) -> (C, u64, Vec<u8>),
+    next: impl Fn(&mut Dice) -> (C, u64, Left),
     count: impl FnMut(&talk::Asked<C>),
 ) -> Result<(), String> {
     let mut dice = Dice::new(options.seed);
@@ -123,7 +125,7 @@ fn compare_apart<C: talk::Call>(
 
 impl talk::Call for Move {
     fn request(&self) -> Vec<u8> {
-        request(3 + self.to.version(), 0, [&self.table, &self.output, &[]], 0)
+        request(3 + self.to.version(), 0, [&self.table, &self.output, &[], &[]], 0)
     }
 
     fn tell(&self) -> String {
@@ -134,14 +136,6 @@ impl talk::Call for Move {
 // ------------------------------------------------------------------------------------------------
 // Counting
 // ------------------------------------------------------------------------------------------------
-
-/// What new states a plan in state 0 to 8 can have after one step from states that may be handed
-/// in. Only these moves are possible, and all of them must be reached:
-/// - a plan in selection or execution has a parent in execution, which does not become Inactive
-///   again, so neither does it; it moves on, or is Rejected or Aborted;
-/// - an ended plan stays, or becomes Inactive when a plan above it is retried; Aborted is retried.
-const POSSIBLE_MOVES: [&[usize]; 9] =
-    [&[0, 1], &[1, 2, 8], &[2, 3, 8], &[3, 4, 8], &[4, 5, 6, 7], &[4, 5, 7], &[0, 6], &[0, 1, 7], &[0, 8]];
 
 const LAST_NUMBER: usize = 22;
 /// The numbers among them that are of none of the three calls: the program's, and those of patterns.
@@ -155,8 +149,6 @@ fn numbers() -> impl Iterator<Item = usize> {
 struct Counts {
     /// By kind (step, rest, check) and answer number.
     answers: [[u64; LAST_NUMBER + 1]; 3],
-    /// By old and new state, in steps that were not refused.
-    moves: [[u64; 9]; 9],
     /// Steps in which nothing moved.
     still_steps: u64,
     /// Steps that would have gone otherwise with picks 0, and the highest pick in one of them.
@@ -180,9 +172,15 @@ struct Counts {
     told: Told,
 }
 
-/// What was reached of the bodies 5 to 8, of the choices in any order, of the two rules and of the tables of version 2, told by lines.
+/// What was reached of the causes, of the bodies 5 to 8, of the choices in any order, of the two rules and of the tables of version 2, told
+/// by lines.
 #[derive(Default)]
 struct Told {
+    /// The moves of plans in steps that were not refused, by their causes.
+    causes: Lines,
+    reasons: Lines,
+    causes_of_runs: Lines,
+    lengths_of_causes: Lines,
     choices: Lines,
     choices_in_records: Lines,
     /// Records that were judged by the old fallback too, and what was reached of them.
@@ -255,10 +253,7 @@ impl Counts {
     }
 
     fn add_moves(&mut self, asked: &Asked) {
-        for (&old, &new) in asked.call.states.iter().zip(&asked.left) {
-            self.moves[usize::from(old)][usize::from(new)] += 1;
-        }
-        self.still_steps += u64::from(asked.call.states == asked.left);
+        self.still_steps += u64::from(asked.call.states == asked.states());
         self.add_picks(asked);
     }
 
@@ -269,7 +264,7 @@ impl Counts {
             highest = highest.max(usize::from(word[3]));
             word[3] = 0;
         }
-        if highest > 0 && without_picks.ask_reference().1 != asked.left {
+        if highest > 0 && without_picks.ask_reference().1 != asked.states() {
             self.picks_that_decided += 1;
             self.highest_pick_that_decided = self.highest_pick_that_decided.max(highest);
         }
@@ -336,56 +331,29 @@ impl Counts {
     }
 
     fn print_moves(&self) {
-        println!(
-            "moves of plans in steps (old state down, new state across; steps without any move: {})",
-            self.still_steps
-        );
-        println!("     {}", (0..9).map(|new| format!("{new:>9}")).collect::<String>());
-        for (old, row) in self.moves.iter().enumerate() {
-            let cell = |new: usize| match (row[new], POSSIBLE_MOVES[old].contains(&new)) {
-                (0, false) => format!("{:>9}", "."),
-                (count, _) => format!("{count:>9}"),
-            };
-            println!("  {old}  {}", (0..9).map(cell).collect::<String>());
-        }
+        println!("moves of plans in steps, by their causes (steps without any move: {})", self.still_steps);
+        causes::print_moves(&self.told.causes);
         println!(
             "steps that would have gone otherwise with picks 0: {} (highest pick: {})",
             self.picks_that_decided, self.highest_pick_that_decided
         );
     }
 
-    /// No move but the possible ones, however few calls were made.
-    fn nothing_impossible(&self) -> Result<(), String> {
-        match self.first_move(|reached, possible| reached && !possible) {
-            Some((old, new)) => Err(format!("IMPOSSIBLE, yet reached: the move from {old} to {new}")),
-            None => self.told.nothing_impossible(),
-        }
-    }
-
-    /// Every number, every possible move, and what is told by lines.
+    /// Every number, and what is told by lines.
     fn all_reached(&self) -> Result<(), String> {
         for number in numbers() {
             if self.answers.iter().all(|kind| kind[number] == 0) {
                 return Err(format!("NOT REACHED: answer number {number}"));
             }
         }
-        match self.first_move(|reached, possible| possible && !reached) {
-            Some((old, new)) => Err(format!("NOT REACHED: the move from {old} to {new}")),
-            None => self.told.all_reached(),
-        }
-    }
-
-    /// The first move that is wrong, given whether it was reached and whether it is possible.
-    fn first_move(&self, is_wrong: impl Fn(bool, bool) -> bool) -> Option<(usize, usize)> {
-        (0..9)
-            .flat_map(|old| (0..9).map(move |new| (old, new)))
-            .find(|&(old, new)| is_wrong(self.moves[old][new] > 0, POSSIBLE_MOVES[old].contains(&new)))
+        self.told.all_reached()
     }
 }
 
 impl Told {
     fn add(&mut self, asked: &Asked) {
-        let Asked { call, answer, left: states, .. } = asked;
+        let (call, answer, states, causes) = (&asked.call, asked.answer, asked.states(), asked.causes());
+        causes::count_length(&mut self.lengths_of_causes, call, number_of(answer));
         let rule = match cases::RULES.into_iter().find(|&(number, _)| number == call.rule) {
             Some((_, rule)) => rule,
             None => {
@@ -407,12 +375,14 @@ impl Told {
         }
         if call.kind == Kind::Check {
             self.judged_twice += 1;
-            picks::count_verdicts(&mut self.verdicts, rule, version, call, &plans, *answer);
+            picks::count_verdicts(&mut self.verdicts, rule, version, call, &plans, answer);
         }
-        match (call.kind, number_of(*answer)) {
+        match (call.kind, number_of(answer)) {
             (Kind::Step, 0) => {
                 let words = reference::read_words(&call.words);
                 let before = reference::Before { rule, plans: &plans, states: &call.states, words: &words };
+                causes::count_moves(&mut self.causes, &call.states, states, causes);
+                causes::count_reasons(&mut self.reasons, &before, states, causes);
                 picks::count_choices(&mut self.choices, version, &before, states);
                 turns::count_orders(&mut self.orders, &before, states);
                 turns::count_waits(&mut self.waits, call, &plans, states);
@@ -421,9 +391,9 @@ impl Told {
                     formulas::count_truths(&mut self.truths, &before, states);
                 }
             }
+            (Kind::Rest, 0) => causes::count_run(&mut self.causes_of_runs, call, answer, states, causes),
             (Kind::Check, 0) => self.add_record(rule, &plans, &call.words, version),
-            (_, 0) => {}
-            _ => turns::count_refused_call(&mut self.refused, call, &plans, *answer),
+            _ => turns::count_refused_call(&mut self.refused, call, &plans, answer),
         }
         losses::count_answers(&mut self.answers, call, &plans);
     }
@@ -441,10 +411,14 @@ impl Told {
     }
 
     /// Each part with its name and what is wanted of it.
-    fn parts(&self) -> [(&str, &Lines, Vec<String>); 17] {
+    fn parts(&self) -> [(&str, &Lines, Vec<String>); 21] {
         let refusals = [turns::wanted_of_tables(), turns::wanted_of_calls()].concat();
         let ([apart, alike], [apart_in_records, alike_in_records]) = (&self.moves, &self.moves_in_records);
         [
+            ("causes of moves in steps", &self.causes, causes::wanted_moves()),
+            ("reasons at once in steps", &self.reasons, causes::wanted_reasons()),
+            ("causes that runs leave", &self.causes_of_runs, causes::wanted_runs()),
+            ("wrong lengths of causes", &self.lengths_of_causes, causes::wanted_lengths()),
             ("choices in any order in steps", &self.choices, picks::wanted_choices()),
             ("choices where the fallbacks part in accepted records", &self.choices_in_records, picks::wanted_in_records()),
             ("records judged alike though the fallbacks part", &self.verdicts, picks::wanted_verdicts()),
@@ -487,7 +461,7 @@ fn picks_decided_in_record(call: &Call) -> bool {
     let mut states = vec![reference::INACTIVE; n];
     call.words[8..].chunks_exact(5 * n).any(|part| {
         let (words, shown) = part.split_at(4 * n);
-        reference::step(call.rule, &call.table, &mut states, words);
+        reference::step(call.rule, &call.table, &mut states, words, &mut vec![0; n]);
         let differs = states != shown;
         states.copy_from_slice(shown);
         differs

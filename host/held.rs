@@ -49,9 +49,9 @@ fn run() -> Result<(), String> {
     let next = || {
         let call = next_call(&mut dice);
         let (answer, left) = call.ask_reference();
-        (call, answer, left)
+        (call, answer, vec![left])
     };
-    talk::compare(&options, next, |asked| reached.add(&asked.call, asked.answer, &asked.left))?;
+    talk::compare(&options, next, |asked| reached.add(&asked.call, asked.answer, &asked.left[0]))?;
     reached.print();
     reached.nothing_impossible()?;
     if options.asks_for_all() {

@@ -44,7 +44,8 @@ int main(int argc, char **argv) {
         default:
             need(0, "no such call");
         }
-        reply(answer, &annotation, guarded(&annotation) && guarded(&samples) && unchanged(&samples));
+        const Buffer *left = &annotation;
+        reply(answer, &left, 1, guarded(&annotation) && guarded(&samples) && unchanged(&samples));
         drop(&annotation), drop(&samples);
     }
     return 0;

@@ -1,6 +1,6 @@
 /*
- * A host program as a tablet would have one: it loads a plan table, steps through a morning, prints the states after each step, writes
- * the record of it to a file, reads that back and has it checked.
+ * A host program as a tablet would have one: it loads a plan table, steps through a morning, prints the states after each step and, of
+ * each plan that moved, why, writes the record of it to a file, reads that back and has it checked.
  *
  *   morning TABLE RECORD < WORDS
  *
@@ -35,9 +35,12 @@ static int read_words(uint8_t *words, size_t plans) {
     return 1;
 }
 
-static void print_states(unsigned step, const uint8_t *states, size_t plans) {
+static void print_step(unsigned step, const uint8_t *states, const uint8_t *causes, size_t plans) {
     printf("%2u", step);
-    for (size_t p = 0; p < plans; p++) printf(" %s", asbru_state_text(states[p]));
+    for (size_t p = 0; p < plans; p++) {
+        printf("%s %s", p ? "," : "", asbru_state_text(states[p]));
+        if (causes[p] != ASBRU_UNMOVED) printf(" (%s)", asbru_cause_text(causes[p]));
+    }
     printf("\n");
 }
 
@@ -63,11 +66,11 @@ int main(int argc, char **argv) {
     asbru_put_header(part, 'R', (unsigned)plans);
     fwrite(part, 1, ASBRU_HEADER, file);
 
-    uint8_t states[ASBRU_MOST_PLANS] = {0};
+    uint8_t states[ASBRU_MOST_PLANS] = {0}, causes[ASBRU_MOST_PLANS];
     uint8_t words[ASBRU_WORD * ASBRU_MOST_PLANS];
     for (unsigned step = 1; read_words(words, plans); step++) {
-        need(asbru_step(ASBRU_RULE_2, table, table_length, states, plans, words, ASBRU_WORD * plans));
-        print_states(step, states, plans);
+        need(asbru_step(ASBRU_RULE_2, table, table_length, states, plans, words, ASBRU_WORD * plans, causes, plans));
+        print_step(step, states, causes, plans);
         asbru_put_step(part, plans, words, states);
         fwrite(part, 1, asbru_step_size(plans), file);
     }
@@ -78,7 +81,7 @@ int main(int argc, char **argv) {
     uint64_t bound = asbru_bound(table, table_length, words, ASBRU_WORD * plans);
     need(bound);
     uint16_t budget = asbru_plan(bound) == 0 ? (uint16_t)asbru_step_of(bound) : 1000;
-    uint64_t rest = asbru_rest(ASBRU_RULE_2, table, table_length, states, plans, words, ASBRU_WORD * plans, budget);
+    uint64_t rest = asbru_rest(ASBRU_RULE_2, table, table_length, states, plans, words, ASBRU_WORD * plans, causes, plans, budget);
     need(rest);
     printf("%s after %u steps\n", asbru_plan(rest) == 0 ? "at rest" : "still moving", asbru_step_of(rest));
 

@@ -13,6 +13,7 @@ enum { INACTIVE, CONSIDERED, POSSIBLE, READY, ACTIVATED, SUSPENDED, COMPLETED, A
 enum { LEAF, SEQUENTIAL, PARALLEL, ANY_ORDER, UNORDERED, ON_ABORT, ON_SUSPEND, ON_ABORT_OR_SUSPEND, IF_THEN_ELSE };
 enum { FILTER = 1, SETUP = 2, SUSPEND = 4, REACTIVATE = 8, ABORT = 16, COMPLETE = 32 };
 enum { RETRY = 1, OPTIONAL = 2, NAMED = 4 };
+enum { UNMOVED, ORDERED, OWN_CONDITION, CHILDREN_LOST, FORCED };
 /* of the absent conditions, those that hold */
 enum { ABSENT_HOLD = FILTER | SETUP | REACTIVATE | COMPLETE };
 
@@ -417,11 +418,11 @@ static uint64_t check_words(const Plan *plans, unsigned n, const uint8_t *words)
 
 /* Checks 17, 1 to 8, 22 and 9 to 12. */
 static uint64_t check_call(uint32_t rule, const uint8_t *t, size_t t_length, const uint8_t *states, size_t s_length,
-                           const uint8_t *words, size_t w_length, Plan *plans, Formulas *f) {
+                           const uint8_t *words, size_t w_length, size_t c_length, Plan *plans, Formulas *f) {
     uint64_t bad = read_table(rule, t, t_length, plans, f);
     if (bad) return bad;
     unsigned n = u16(t + 5);
-    if (s_length != n || w_length != 4 * n) return 10;
+    if (s_length != n || w_length != 4 * n || c_length != n) return 10;
     bad = check_states(plans, n, states);
     return bad ? bad : check_words(plans, n, words);
 }
@@ -434,29 +435,62 @@ static void look_ahead(const Plan *plans, unsigned n, const Formulas *f, const u
     for (unsigned p = 0; p < n; p++) now[p] = (uint8_t)next(plans, &s, states, now, words, p);
 }
 
+/* Why a plan moved, from its old state to that of now, where its parent is in `above_now`. */
+static inline unsigned cause(const Plan *e, uint32_t x, unsigned old, unsigned now, unsigned above_now) {
+    if (above_now != ACTIVATED && above_now != SUSPENDED) return FORCED;
+    switch (now) {
+    case CONSIDERED:
+        return ORDERED;
+    case ACTIVATED:
+        return old == READY ? ORDERED : OWN_CONDITION;
+    case SUSPENDED:
+        return above_now == SUSPENDED ? FORCED : OWN_CONDITION;
+    case ABORTED:
+        return holding(e, x) & ABORT ? OWN_CONDITION : CHILDREN_LOST;
+    default:
+        return OWN_CONDITION;
+    }
+}
+
+/* The causes of a step, told behind it, so that the checker need not ask for them. */
+static void tell(const Plan *plans, unsigned n, const uint8_t *old, const uint8_t *now, const uint8_t *words, uint8_t *causes) {
+    memset(causes, UNMOVED, n);
+    for (unsigned p = 0; p < n; p++) {
+        if (old[p] == now[p]) continue;
+        unsigned above_now = p ? now[plans[p].parent] : ACTIVATED;
+        causes[p] = (uint8_t)cause(plans + p, word_of(words, p), old[p], now[p], above_now);
+    }
+}
+
 uint64_t plain_step(uint32_t rule, const uint8_t *table, size_t table_length, uint8_t *states, size_t states_length,
-                    const uint8_t *words, size_t words_length) {
+                    const uint8_t *words, size_t words_length, uint8_t *causes, size_t causes_length) {
     Plan plans[MOST];
     Formulas f;
-    uint64_t bad = check_call(rule, table, table_length, states, states_length, words, words_length, plans, &f);
+    uint64_t bad = check_call(rule, table, table_length, states, states_length, words, words_length, causes_length, plans, &f);
     if (bad) return bad;
     uint8_t now[MOST];
     look_ahead(plans, (unsigned)states_length, &f, states, words, now);
+    tell(plans, (unsigned)states_length, states, now, words, causes);
     memcpy(states, now, states_length);
     return 0;
 }
 
 uint64_t plain_rest(uint32_t rule, const uint8_t *table, size_t table_length, uint8_t *states, size_t states_length,
-                    const uint8_t *words, size_t words_length, uint16_t budget) {
+                    const uint8_t *words, size_t words_length, uint8_t *causes, size_t causes_length, uint16_t budget) {
     Plan plans[MOST];
     Formulas f;
-    uint64_t bad = check_call(rule, table, table_length, states, states_length, words, words_length, plans, &f);
+    uint64_t bad = check_call(rule, table, table_length, states, states_length, words, words_length, causes_length, plans, &f);
     if (bad) return bad;
+    uint8_t now[MOST], last[MOST]; /* what the last step that was taken began with; as long as there is none, nothing has moved */
+    memcpy(last, states, states_length);
     for (unsigned k = 0;; k++) {
-        uint8_t now[MOST];
         look_ahead(plans, (unsigned)states_length, &f, states, words, now);
-        if (!memcmp(states, now, states_length)) return answer(0, k, 0);
-        if (k == budget) return answer(0, budget, 1);
+        int rests = !memcmp(states, now, states_length);
+        if (rests || k == budget) {
+            tell(plans, (unsigned)states_length, last, states, words, causes);
+            return answer(0, k, !rests);
+        }
+        memcpy(last, states, states_length);
         memcpy(states, now, states_length);
     }
 }

@@ -1,7 +1,7 @@
 //! A slow and plain implementation of document 01, "Requirements and rules for the build", and of
-//! requests (i), (ii), (v), (vi), (vii) and (viii) of document 02, "Bodies for the bad turn", "A retried step
-//! should not sink its parent", "Wait for this or both of those", "Moving the library of tables", "Do the
-//! mandatory one first" and "How long can it go on moving?".
+//! requests (i), (ii) and (v) to (ix) of document 02, "Bodies for the bad turn", "A retried step should not
+//! sink its parent", "Wait for this or both of those", "Moving the library of tables", "Do the mandatory one
+//! first", "How long can it go on moving?" and "Say why it moved".
 //!
 //! It is written to be read beside the documents: in the order of document 01, in their words, one
 //! small function for each rule. A sentence in quotation marks is document 01's own; behind "02 (i):",
@@ -339,7 +339,7 @@ pub fn condition_holds(plan: &Plan, word: u32, condition: u32) -> bool {
 
 /// "A present filter or setup is satisfiable when its bit says so or it is overridable". Of an
 /// absent one this is never asked, for it holds.
-fn condition_is_satisfiable(plan: &Plan, word: u32, filter_or_setup: u32) -> bool {
+pub fn condition_is_satisfiable(plan: &Plan, word: u32, filter_or_setup: u32) -> bool {
     pattern_satisfiable(word, filter_or_setup) || bit(plan.overridable, filter_or_setup)
 }
 
@@ -374,39 +374,71 @@ struct Orders {
 
 const NO_ORDERS: Orders = Orders { considers: false, activates: false, retries: false };
 
-/// The new states of all plans: "Plans move in table order."
-pub fn new_states(before: &Before) -> Vec<u8> {
-    let mut new = Vec::new();
+// 02 (ix): "0 unmoved, 1 ordered by the parent, 2 its own condition, 3 children lost, 4 forced by the
+//  parent's state"
+pub const UNMOVED: u8 = 0;
+pub const ORDERED: u8 = 1;
+pub const OWN_CONDITION: u8 = 2;
+pub const CHILDREN_LOST: u8 = 3;
+pub const FORCED: u8 = 4;
+
+/// 02 (ix): "The move of one plan now also answers a cause".
+struct Moved {
+    state: u8,
+    cause: u8,
+}
+
+fn moves_to(state: u8, cause: u8) -> Moved {
+    Moved { state, cause }
+}
+
+/// The state is the old one.
+fn stays(state: u8) -> Moved {
+    Moved { state, cause: UNMOVED }
+}
+
+/// All plans of one step: "Plans move in table order."
+fn moves_of_all(before: &Before) -> Vec<Moved> {
+    let mut moves: Vec<Moved> = Vec::new();
     for (p, plan) in before.plans.iter().enumerate() {
-        let state = match plan.parent {
-            None => new_state_of_root(before),
+        let moved = match plan.parent {
+            None => move_of_root(before),
             // A parent has a lower number than its child, so its new state is known by now.
-            Some(parent) => new_state_of_child(before, p, parent, new[parent], pick_of(before.words[parent])),
+            Some(parent) => move_of_child(before, p, parent, moves[parent].state, pick_of(before.words[parent])),
         };
-        new.push(state);
+        moves.push(moved);
     }
-    new
+    moves
+}
+
+/// The new states of all plans.
+pub fn new_states(before: &Before) -> Vec<u8> {
+    moves_of_all(before).iter().map(|moved| moved.state).collect()
+}
+
+/// Why each plan moved, if it did.
+pub fn causes(before: &Before) -> Vec<u8> {
+    moves_of_all(before).iter().map(|moved| moved.cause).collect()
 }
 
 /// "The root acts as if under a parent that stays Activated, that considers it when Inactive and
-/// activates it when Ready."
-fn new_state_of_root(before: &Before) -> u8 {
+/// activates it when Ready." So these two moves of the root are ordered as well.
+fn move_of_root(before: &Before) -> Moved {
     let orders = Orders { considers: true, activates: true, retries: false };
-    new_state(before, 0, ACTIVATED, &orders)
+    move_of(before, 0, ACTIVATED, &orders)
 }
 
 /// "A plan reads its parent's NEW state and its children's and siblings' OLD states." The pick is
 /// the parent's; no other pick is read.
-fn new_state_of_child(before: &Before, p: usize, parent: usize, parent_new: u8, pick: usize) -> u8 {
+fn move_of_child(before: &Before, p: usize, parent: usize, parent_new: u8, pick: usize) -> Moved {
     let orders = orders_to(before, p, parent, parent_new, pick);
-    new_state(before, p, parent_new, &orders)
+    move_of(before, p, parent_new, &orders)
 }
 
 /// "By the parent's new state:"
-fn new_state(before: &Before, p: usize, parent_new: u8, orders: &Orders) -> u8 {
+fn move_of(before: &Before, p: usize, parent_new: u8, orders: &Orders) -> Moved {
     if parent_new == INACTIVE || in_selection(parent_new) {
-        // "Inactive or selection: the child becomes Inactive."
-        INACTIVE
+        under_parent_that_has_not_begun(before.states[p])
     } else if has_ended(parent_new) {
         under_ended_parent(before.states[p])
     } else {
@@ -414,19 +446,30 @@ fn new_state(before: &Before, p: usize, parent_new: u8, orders: &Orders) -> u8 {
     }
 }
 
-/// "Ended: selection becomes Rejected, execution Aborted, all else stays."
-fn under_ended_parent(old: u8) -> u8 {
-    if in_selection(old) {
-        REJECTED
-    } else if in_execution(old) {
-        ABORTED
+/// "Inactive or selection: the child becomes Inactive." 02 (ix): "a reset to Inactive is 4"; a child that
+/// was Inactive has not moved.
+fn under_parent_that_has_not_begun(old: u8) -> Moved {
+    if old == INACTIVE {
+        stays(INACTIVE)
     } else {
-        old
+        moves_to(INACTIVE, FORCED)
+    }
+}
+
+/// "Ended: selection becomes Rejected, execution Aborted, all else stays." Whatever else holds of the child,
+/// it is its parent's state that does it.
+fn under_ended_parent(old: u8) -> Moved {
+    if in_selection(old) {
+        moves_to(REJECTED, FORCED)
+    } else if in_execution(old) {
+        moves_to(ABORTED, FORCED)
+    } else {
+        stays(old)
     }
 }
 
 /// "Activated or Suspended:" one rule for each old state.
-fn under_executing_parent(before: &Before, p: usize, parent_new: u8, orders: &Orders) -> u8 {
+fn under_executing_parent(before: &Before, p: usize, parent_new: u8, orders: &Orders) -> Moved {
     match before.states[p] {
         INACTIVE => from_inactive(orders),
         CONSIDERED => from_considered(before, p),
@@ -439,86 +482,93 @@ fn under_executing_parent(before: &Before, p: usize, parent_new: u8, orders: &Or
 }
 
 /// "Inactive: Considered if the parent considers it."
-fn from_inactive(orders: &Orders) -> u8 {
+fn from_inactive(orders: &Orders) -> Moved {
     if orders.considers {
-        CONSIDERED
+        moves_to(CONSIDERED, ORDERED)
     } else {
-        INACTIVE
+        stays(INACTIVE)
     }
 }
 
 /// "Considered: Possible if the filter holds; else Rejected if it is not satisfiable; else stays."
-fn from_considered(before: &Before, p: usize) -> u8 {
+/// 02 (ix): "Filter, setup, reactivation and completion are 2"; and so is a filter that is not satisfiable.
+fn from_considered(before: &Before, p: usize) -> Moved {
     if condition_holds(&before.plans[p], before.words[p], FILTER) {
-        POSSIBLE
+        moves_to(POSSIBLE, OWN_CONDITION)
     } else if !condition_is_satisfiable(&before.plans[p], before.words[p], FILTER) {
-        REJECTED
+        moves_to(REJECTED, OWN_CONDITION)
     } else {
-        CONSIDERED
+        stays(CONSIDERED)
     }
 }
 
 /// "Possible: likewise with setup, to Ready."
-fn from_possible(before: &Before, p: usize) -> u8 {
+fn from_possible(before: &Before, p: usize) -> Moved {
     if condition_holds(&before.plans[p], before.words[p], SETUP) {
-        READY
+        moves_to(READY, OWN_CONDITION)
     } else if !condition_is_satisfiable(&before.plans[p], before.words[p], SETUP) {
-        REJECTED
+        moves_to(REJECTED, OWN_CONDITION)
     } else {
-        POSSIBLE
+        stays(POSSIBLE)
     }
 }
 
 /// "Ready: Activated if the parent activates it."
-fn from_ready(orders: &Orders) -> u8 {
+fn from_ready(orders: &Orders) -> Moved {
     if orders.activates {
-        ACTIVATED
+        moves_to(ACTIVATED, ORDERED)
     } else {
-        READY
+        stays(READY)
     }
 }
 
 /// "Activated: first match of: Aborted ...; Suspended ...; Completed ..."
-fn from_activated(before: &Before, p: usize, parent_new: u8) -> u8 {
-    if must_abort(before, p) {
-        ABORTED
-    } else if must_suspend(before, p, parent_new) {
-        SUSPENDED
+fn from_activated(before: &Before, p: usize, parent_new: u8) -> Moved {
+    if let Some(cause) = why_abort(before, p) {
+        moves_to(ABORTED, cause)
+    } else if let Some(cause) = why_suspend(before, p, parent_new) {
+        moves_to(SUSPENDED, cause)
     } else if may_complete(before, p) {
-        COMPLETED
+        moves_to(COMPLETED, OWN_CONDITION)
     } else {
-        ACTIVATED
+        stays(ACTIVATED)
     }
 }
 
 /// "Suspended: Aborted as above; else Activated if the parent is Activated and reactivate holds."
-fn from_suspended(before: &Before, p: usize, parent_new: u8) -> u8 {
-    if must_abort(before, p) {
-        ABORTED
+fn from_suspended(before: &Before, p: usize, parent_new: u8) -> Moved {
+    if let Some(cause) = why_abort(before, p) {
+        moves_to(ABORTED, cause)
     } else if may_reactivate(before, p, parent_new) {
-        ACTIVATED
+        moves_to(ACTIVATED, OWN_CONDITION)
     } else {
-        SUSPENDED
+        stays(SUSPENDED)
     }
 }
 
 /// "Ended: stays, but Aborted becomes Considered if the parent retries it."
-fn from_ended(old: u8, orders: &Orders) -> u8 {
+fn from_ended(old: u8, orders: &Orders) -> Moved {
     if old == ABORTED && orders.retries {
-        CONSIDERED
+        moves_to(CONSIDERED, ORDERED)
     } else {
-        old
+        stays(old)
     }
 }
 
-/// "Aborted if abort holds or too many children are lost"
-fn must_abort(before: &Before, p: usize) -> bool {
-    condition_holds(&before.plans[p], before.words[p], ABORT) || too_many_are_lost(before, p)
+/// "Aborted if abort holds or too many children are lost". 02 (ix): "Own abort goes before lost children".
+fn why_abort(before: &Before, p: usize) -> Option<u8> {
+    if condition_holds(&before.plans[p], before.words[p], ABORT) {
+        Some(OWN_CONDITION)
+    } else if too_many_are_lost(before, p) {
+        Some(CHILDREN_LOST)
+    } else {
+        None
+    }
 }
 
 /// "Too many are lost when wait-for fails of the children that are neither Rejected nor Aborted"; which
 /// of these are lost is for the rule to say.
-fn too_many_are_lost(before: &Before, p: usize) -> bool {
+pub fn too_many_are_lost(before: &Before, p: usize) -> bool {
     !wait_for_holds(before, p, |state| !is_lost(before.rule, &before.plans[p], state))
 }
 
@@ -531,9 +581,15 @@ pub fn is_lost(rule: Rule, parent: &Plan, child_state: u8) -> bool {
     }
 }
 
-/// "Suspended if the parent is Suspended or suspend holds"
-fn must_suspend(before: &Before, p: usize, parent_new: u8) -> bool {
-    parent_new == SUSPENDED || condition_holds(&before.plans[p], before.words[p], SUSPEND)
+/// "Suspended if the parent is Suspended or suspend holds". 02 (ix): "a forced suspension before an own one"
+fn why_suspend(before: &Before, p: usize, parent_new: u8) -> Option<u8> {
+    if parent_new == SUSPENDED {
+        Some(FORCED)
+    } else if condition_holds(&before.plans[p], before.words[p], SUSPEND) {
+        Some(OWN_CONDITION)
+    } else {
+        None
+    }
 }
 
 /// "Completed if complete holds, wait-for holds of the Completed children, and, with
@@ -779,29 +835,32 @@ fn lower_siblings(plans: &[Plan], parent: usize, p: usize) -> impl Iterator<Item
 // Rest
 // ------------------------------------------------------------------------------------------------
 
-/// How a run under held words went, and the states that it leaves.
+/// How a run under held words went, and the states and causes that it leaves.
 #[derive(Debug, PartialEq)]
 pub enum Run {
-    Rested { after: u16, states: Vec<u8> },
-    StillMoving { states: Vec<u8> },
+    Rested { after: u16, states: Vec<u8>, causes: Vec<u8> },
+    StillMoving { states: Vec<u8>, causes: Vec<u8> },
 }
 
 /// "rested after k, the least k up to the budget after which one more step changes nothing; or
 /// still moving, exactly when no such k exists. The states are those after k, or after the whole
-/// budget."
+/// budget." 02 (ix): "A run gives its last step's causes, all 0 if it took none."
 fn run_to_rest(start: &Before, budget: u16) -> Run {
     let mut now = start.states.to_vec();
+    let mut last_causes = vec![UNMOVED; now.len()];
     for k in 0..=budget {
-        let one_more = new_states(&Before { states: &now, ..*start });
+        let before = Before { states: &now, ..*start };
+        let one_more = new_states(&before);
         if one_more == now {
-            return Run::Rested { after: k, states: now };
+            return Run::Rested { after: k, states: now, causes: last_causes };
         }
         // The step after the budget was made only to see whether it changes something.
         if k < budget {
+            last_causes = causes(&before);
             now = one_more;
         }
     }
-    Run::StillMoving { states: now }
+    Run::StillMoving { states: now, causes: last_causes }
 }
 
 /// The same answer as `run_to_rest`, sooner for a run that goes round in a circle for 65,535 steps.
@@ -811,24 +870,35 @@ fn run_to_rest(start: &Before, budget: u16) -> Run {
 /// the run from k repeats the run from j, with period k - j: for every later i the states after i
 /// are those after j + (i - j) mod (k - j). None of the states in the circle is at rest, for a run
 /// at rest was answered before it could repeat. So no k' up to any budget exists, and the states
-/// after the whole budget are among those already seen.
+/// after the whole budget are among those already seen. The causes of its last step are told by the
+/// states before that step: those that led to the same states for the first time may be others.
 fn run_to_rest_jumping(start: &Before, budget: u16) -> Run {
+    let budget = usize::from(budget);
     let mut seen: Vec<Vec<u8>> = vec![start.states.to_vec()];
     let mut first_seen_after = std::collections::HashMap::from([(start.states.to_vec(), 0)]);
-    for k in 0..=usize::from(budget) {
+    for k in 0..=budget {
         let one_more = new_states(&Before { states: &seen[k], ..*start });
         if one_more == seen[k] {
-            return Run::Rested { after: k as u16, states: one_more };
+            return Run::Rested { after: k as u16, states: one_more, causes: causes_of_step(start, k, |i| &seen[i]) };
         }
         if let Some(&j) = first_seen_after.get(&one_more) {
             let period = k + 1 - j;
-            let like_after_budget = j + (usize::from(budget) - j) % period;
-            return Run::StillMoving { states: seen[like_after_budget].clone() };
+            let states_after = |i: usize| &seen[if i < j { i } else { j + (i - j) % period }];
+            let causes = causes_of_step(start, budget, states_after);
+            return Run::StillMoving { states: states_after(budget).clone(), causes };
         }
         first_seen_after.insert(one_more.clone(), k + 1);
         seen.push(one_more);
     }
-    Run::StillMoving { states: seen[usize::from(budget)].clone() }
+    Run::StillMoving { states: seen[budget].clone(), causes: causes_of_step(start, budget, |i| &seen[i]) }
+}
+
+/// The causes of a step of a run, counted from 1; "all 0" of step 0, for then it took none.
+fn causes_of_step<'a>(start: &Before, step: usize, states_after: impl Fn(usize) -> &'a Vec<u8>) -> Vec<u8> {
+    match step {
+        0 => vec![UNMOVED; start.states.len()],
+        _ => causes(&Before { states: states_after(step - 1), ..*start }),
+    }
 }
 
 // ------------------------------------------------------------------------------------------------
@@ -912,12 +982,12 @@ fn first_unexplained_by(before: &Before, shown: &[u8], mut possible_picks: Vec<V
     for (p, plan) in before.plans.iter().enumerate() {
         match plan.parent {
             None => {
-                if new_state_of_root(before) != shown[p] {
+                if move_of_root(before).state != shown[p] {
                     return Some(p);
                 }
             }
             Some(parent) => {
-                let new_state_with = |pick| new_state_of_child(before, p, parent, shown[parent], pick);
+                let new_state_with = |pick| move_of_child(before, p, parent, shown[parent], pick).state;
                 possible_picks[parent].retain(|&pick| new_state_with(pick) == shown[p]);
                 if possible_picks[parent].is_empty() {
                     return Some(p);
@@ -1184,10 +1254,10 @@ fn is_satisfied_but_not_satisfiable(word: u32) -> bool {
 }
 
 /// The checks 10 to 12 of a call of the step or the run.
-fn read_call(plans: &[Plan], states: &[u8], words: &[u8]) -> Result<Vec<u32>, Answer> {
+fn read_call(plans: &[Plan], states: &[u8], words: &[u8], causes: &[u8]) -> Result<Vec<u32>, Answer> {
     let n = plans.len();
-    // "10: states not n bytes or words not 4n"
-    refuse_if(states.len() != n || words.len() != 4 * n, 10)?;
+    // "10: states not n bytes or words not 4n"; 02 (ix): "10 also for the cause buffer's length"
+    refuse_if(states.len() != n || words.len() != 4 * n || causes.len() != n, 10)?;
     // "11: states handed in break a rule"
     refuse_lowest_plan(n, 11, 0, |p| breaks_a_rule(plans, states, p))?;
     read_held_words(plans, words)
@@ -1296,32 +1366,36 @@ fn moved_to_version_1(table: &[u8]) -> Result<Vec<u8>, Answer> {
 }
 
 // ------------------------------------------------------------------------------------------------
-// The calls. "No refusal changes lent bytes": states and output are written after the last check only.
+// The calls. "No refusal changes lent bytes": states, causes and output are written after the last check only.
 // ------------------------------------------------------------------------------------------------
 
-/// One synchronous step: "The step and the run write the new states over the states handed in."
-pub fn step(rule: u32, table: &[u8], states: &mut [u8], words: &[u8]) -> Answer {
-    try_step(rule, table, states, words).unwrap_or_else(|refusal| refusal)
+/// One synchronous step: "The step and the run write the new states over the states handed in." 02 (ix): "The
+/// step takes one more lent buffer of n bytes for them", the causes; what stands in it is not read.
+pub fn step(rule: u32, table: &[u8], states: &mut [u8], words: &[u8], causes: &mut [u8]) -> Answer {
+    try_step(rule, table, states, words, causes).unwrap_or_else(|refusal| refusal)
 }
 
-fn try_step(rule: u32, table: &[u8], states: &mut [u8], words: &[u8]) -> Result<Answer, Answer> {
+fn try_step(rule: u32, table: &[u8], states: &mut [u8], words: &[u8], causes: &mut [u8]) -> Result<Answer, Answer> {
     let rule = read_rule(rule)?;
     let plans = read_table(table)?;
-    let words = read_call(&plans, states, words)?;
-    let new = new_states(&Before { rule, plans: &plans, states, words: &words });
-    states.copy_from_slice(&new);
+    let words = read_call(&plans, states, words, causes)?;
+    let moves = moves_of_all(&Before { rule, plans: &plans, states, words: &words });
+    for (p, moved) in moves.iter().enumerate() {
+        states[p] = moved.state;
+        causes[p] = moved.cause;
+    }
     Ok(answer(DONE, 0, 0))
 }
 
 /// Running to rest under held words.
 #[allow(dead_code)] // The tester calls `rest_jumping`, which the tests compare with this one.
-pub fn rest(rule: u32, table: &[u8], states: &mut [u8], words: &[u8], budget: u16) -> Answer {
-    try_rest(rule, table, states, words, budget, run_to_rest).unwrap_or_else(|refusal| refusal)
+pub fn rest(rule: u32, table: &[u8], states: &mut [u8], words: &[u8], causes: &mut [u8], budget: u16) -> Answer {
+    try_rest(rule, table, states, words, causes, budget, run_to_rest).unwrap_or_else(|refusal| refusal)
 }
 
 /// The same, with the jump over the rounds of a circle.
-pub fn rest_jumping(rule: u32, table: &[u8], states: &mut [u8], words: &[u8], budget: u16) -> Answer {
-    try_rest(rule, table, states, words, budget, run_to_rest_jumping).unwrap_or_else(|refusal| refusal)
+pub fn rest_jumping(rule: u32, table: &[u8], states: &mut [u8], words: &[u8], causes: &mut [u8], budget: u16) -> Answer {
+    try_rest(rule, table, states, words, causes, budget, run_to_rest_jumping).unwrap_or_else(|refusal| refusal)
 }
 
 type RunToRest = fn(&Before, u16) -> Run;
@@ -1331,22 +1405,20 @@ fn try_rest(
     table: &[u8],
     states: &mut [u8],
     words: &[u8],
+    causes: &mut [u8],
     budget: u16,
     run: RunToRest,
 ) -> Result<Answer, Answer> {
     let rule = read_rule(rule)?;
     let plans = read_table(table)?;
-    let words = read_call(&plans, states, words)?;
-    match run(&Before { rule, plans: &plans, states, words: &words }, budget) {
-        Run::Rested { after, states: at_rest } => {
-            states.copy_from_slice(&at_rest);
-            Ok(answer(DONE, 0, usize::from(after)))
-        }
-        Run::StillMoving { states: after_budget } => {
-            states.copy_from_slice(&after_budget);
-            Ok(answer(DONE, STILL_MOVING, usize::from(budget)))
-        }
-    }
+    let words = read_call(&plans, states, words, causes)?;
+    let (answer, new_states, last_causes) = match run(&Before { rule, plans: &plans, states, words: &words }, budget) {
+        Run::Rested { after, states, causes } => (answer(DONE, 0, usize::from(after)), states, causes),
+        Run::StillMoving { states, causes } => (answer(DONE, STILL_MOVING, usize::from(budget)), states, causes),
+    };
+    states.copy_from_slice(&new_states);
+    causes.copy_from_slice(&last_causes);
+    Ok(answer)
 }
 
 /// How long a run under these words can go on, by either rule and from whatever states: the figure is the answer's step.

@@ -2,18 +2,19 @@
 //!
 //!     request: u8 kind (1 step, 2 rest, 3 check, 4 to version 1, 5 to version 2, 6 bound); u32 rule (0 for the last three);
 //!              u32 length of the table, u32 of the states (0 for a check and a bound; for 4 and 5: of the output), u32 of the
-//!              words (for a check: of the record; 0 for 4 and 5); u16 budget (0 unless rest); the bytes of the table, of the
-//!              states or of what stands in the output, of the words or record
-//!     answer:  u64; the states or the output, as many bytes as were sent; u8, 1 when the guard bytes around all buffers of the
-//!              child are intact
+//!              words (for a check: of the record; 0 for 4 and 5), u32 of the causes (0 unless step or rest); u16 budget (0
+//!              unless rest); the bytes of the table, of the states or of what stands in the output, of the words or record,
+//!              of what stands in the causes
+//!     answer:  u64; the states or the output, as many bytes as were sent; the causes, likewise; u8, 1 when the table, the words
+//!              or record, and the guard bytes around all buffers of the child are intact
 
 use crate::bound_cases::Question;
 use crate::cases::{Call, Kind};
 use crate::dice::hex;
-use crate::talk;
+use crate::talk::{self, Asked, Left};
 
-/// The parts are the table; the states or what stands in the output; the words or the record.
-pub fn request(kind: u8, rule: u32, parts: [&[u8]; 3], budget: u16) -> Vec<u8> {
+/// The parts are the table; the states or what stands in the output; the words or the record; what stands in the causes.
+pub fn request(kind: u8, rule: u32, parts: [&[u8]; 4], budget: u16) -> Vec<u8> {
     let mut bytes = vec![kind];
     bytes.extend(rule.to_le_bytes());
     for part in parts {
@@ -32,14 +33,31 @@ pub fn kind_number(kind: Kind) -> u8 {
     }
 }
 
+/// What a step, a run or a check leaves.
+pub fn left(states: Vec<u8>, causes: Vec<u8>) -> Left {
+    vec![states, causes]
+}
+
+impl Asked<Call> {
+    /// The states that the call leaves.
+    pub fn states(&self) -> &[u8] {
+        &self.left[0]
+    }
+
+    /// The causes that it leaves.
+    pub fn causes(&self) -> &[u8] {
+        &self.left[1]
+    }
+}
+
 impl talk::Call for Call {
     fn request(&self) -> Vec<u8> {
-        request(kind_number(self.kind), self.rule, [&self.table, &self.states, &self.words], self.budget)
+        request(kind_number(self.kind), self.rule, [&self.table, &self.states, &self.words, &self.causes], self.budget)
     }
 
     fn tell(&self) -> String {
         format!(
-            "kind {} ({:?})\nrule {}\ntable {}\nstates {}\n{} {}\nbudget {}",
+            "kind {} ({:?})\nrule {}\ntable {}\nstates {}\n{} {}\ncauses {}\nbudget {}",
             kind_number(self.kind),
             self.kind,
             self.rule,
@@ -47,6 +65,7 @@ impl talk::Call for Call {
             hex(&self.states),
             if self.kind == Kind::Check { "record" } else { "words" },
             hex(&self.words),
+            hex(&self.causes),
             self.budget,
         )
     }
@@ -54,7 +73,7 @@ impl talk::Call for Call {
 
 impl talk::Call for Question {
     fn request(&self) -> Vec<u8> {
-        request(6, 0, [&self.table, &[], &self.words], 0)
+        request(6, 0, [&self.table, &[], &self.words, &[]], 0)
     }
 
     fn tell(&self) -> String {

@@ -41,9 +41,27 @@ fn bytes(words: [u32; 3]) -> Vec<u8> {
     cases::bytes_of_words(&words)
 }
 
+/// A step of which the test does not ask the causes: as many are lent as states. They are 0 exactly where a state stays.
+fn step(rule: u32, table: &[u8], states: &mut [u8], words: &[u8]) -> u64 {
+    let (before, mut causes) = (states.to_vec(), vec![0; states.len()]);
+    let answer = reference::step(rule, table, states, words, &mut causes);
+    assert!((0..states.len()).all(|p| (causes[p] == 0) == (states[p] == before[p])), "from {before:?} to {states:?}: {causes:?}");
+    answer
+}
+
+type Rest = fn(u32, &[u8], &mut [u8], &[u8], &mut [u8], u16) -> u64;
+
+const RUNS: [Rest; 2] = [reference::rest, reference::rest_jumping];
+
+/// A run of which the test does not ask the causes.
+fn run(rest: Rest, rule: u32, table: &[u8], states: &mut [u8], words: &[u8], budget: u16) -> u64 {
+    let mut causes = vec![0; states.len()];
+    rest(rule, table, states, words, &mut causes, budget)
+}
+
 fn expect_step_by(rule: u32, table: &[u8], from: [u8; 3], words: [u32; 3], to: [u8; 3]) {
     let mut states = from;
-    assert_eq!(reference::step(rule, table, &mut states, &bytes(words)), 0);
+    assert_eq!(step(rule, table, &mut states, &bytes(words)), 0);
     assert_eq!(states, to, "by rule {rule} from {from:?} with {words:?}");
 }
 
@@ -57,7 +75,7 @@ fn expect_step(table: &[u8], from: [u8; 3], words: [u32; 3], to: [u8; 3]) {
 fn expect_refusal(table: &[u8], states: [u8; 3], words: [u32; 3], expected: u64) {
     for rule in [1, 2] {
         let mut lent = states;
-        assert_eq!(reference::step(rule, table, &mut lent, &bytes(words)), expected);
+        assert_eq!(step(rule, table, &mut lent, &bytes(words)), expected);
         assert_eq!(lent, states);
     }
 }
@@ -91,13 +109,13 @@ fn t1_picks_and_completes() {
 
 #[test]
 fn t1_rests() {
-    for rest in [reference::rest, reference::rest_jumping] {
+    for rest in RUNS {
         for rule in [1, 2] {
             let mut states = [0, 0, 0];
-            assert_eq!(rest(rule, &T1, &mut states, &bytes([0, 0, 0]), 8), answer(0, 0, 8));
+            assert_eq!(run(rest, rule, &T1, &mut states, &bytes([0, 0, 0]), 8), answer(0, 0, 8));
             assert_eq!(states, [4, 4, 3]);
             let mut states = [0, 0, 0];
-            assert_eq!(rest(rule, &T1, &mut states, &bytes([0, 0, 0]), 7), answer(0, 1, 7));
+            assert_eq!(run(rest, rule, &T1, &mut states, &bytes([0, 0, 0]), 7), answer(0, 1, 7));
             assert_eq!(states, [4, 3, 3]);
         }
     }
@@ -337,7 +355,7 @@ fn bodies_for_two_refused() {
             let stands = [first == 7, (4..=7).contains(&first), (4..=7).contains(&first), first == 0];
             for body in 5..=8 {
                 let mut states = [4, first, state];
-                let number = reference::step(2, &two(body), &mut states, &bytes([0, 0, 0]));
+                let number = step(2, &two(body), &mut states, &bytes([0, 0, 0]));
                 let expected = if stands[usize::from(body) - 5] { 0 } else { answer(11, 2, 0) };
                 assert_eq!(number, expected, "body {body}: 4, {first}, {state}");
             }
@@ -352,7 +370,7 @@ fn bodies_for_two_refused() {
                 let wrong = if body == 8 && p == 0 { bits == 1 } else { true };
                 let expected = |step| if wrong { answer(12, p, step) } else { answer(0, 0, step) };
                 let mut states = [0, 0, 0];
-                assert_eq!(reference::step(2, &two(body), &mut states, &bytes(words)), expected(0));
+                assert_eq!(step(2, &two(body), &mut states, &bytes(words)), expected(0));
                 let mut record = record_of(&[[1, 0, 0]]);
                 record[8..20].copy_from_slice(&bytes(words));
                 assert_eq!(check(&two(body), &record), expected(1));
@@ -406,10 +424,10 @@ fn a_rejected_child_is_lost_by_both_rules() {
 
 #[test]
 fn runs_by_a_rule() {
-    for rest in [reference::rest, reference::rest_jumping] {
+    for rest in RUNS {
         for (rule, steps, at_rest) in [(1, 1, [7, 7, 8]), (2, 3, [4, 3, 4])] {
             let mut states = [4, 7, 3];
-            assert_eq!(rest(rule, &t1_retrying(), &mut states, &bytes([0, 0, 0]), 9), answer(0, 0, steps));
+            assert_eq!(run(rest, rule, &t1_retrying(), &mut states, &bytes([0, 0, 0]), 9), answer(0, 0, steps));
             assert_eq!(states, at_rest);
         }
     }
@@ -436,8 +454,8 @@ fn other_rule_numbers_are_refused_first() {
         for table in [&T1[..], &T1[..7]] {
             for states in [[4, 7, 3], [9, 9, 9]] {
                 let mut lent = states;
-                assert_eq!(reference::step(rule, table, &mut lent, &bytes([0, 0, 0])), answer(17, 0, 0));
-                assert_eq!(reference::rest(rule, table, &mut lent, &bytes([0, 0, 0]), 9), answer(17, 0, 0));
+                assert_eq!(step(rule, table, &mut lent, &bytes([0, 0, 0])), answer(17, 0, 0));
+                assert_eq!(run(reference::rest, rule, table, &mut lent, &bytes([0, 0, 0]), 9), answer(17, 0, 0));
                 assert_eq!(lent, states);
             }
             for record in [record_of(&FIRST_EIGHT), vec![]] {
@@ -601,10 +619,11 @@ fn jumping_run_answers_as_the_plain_one() {
             cases::good_words(&mut dice, &plans, &mood).iter().flat_map(|word| word.to_le_bytes()).collect();
         let budget = dice.one_of(&[0, 1, 5, 20, 60, 61, 62, 63, 64, 65, 66, 67, 65_535]);
         let mut jumped = states.clone();
+        let (mut causes, mut jumped_causes) = (vec![0; n], vec![255; n]);
         let (rule, _) = cases::any_rule(&mut dice);
-        let plain = reference::rest(rule, &table, &mut states, &words, budget);
-        assert_eq!(reference::rest_jumping(rule, &table, &mut jumped, &words, budget), plain);
-        assert_eq!(jumped, states);
+        let plain = reference::rest(rule, &table, &mut states, &words, &mut causes, budget);
+        assert_eq!(reference::rest_jumping(rule, &table, &mut jumped, &words, &mut jumped_causes, budget), plain);
+        assert_eq!((jumped, jumped_causes), (states, causes));
         moving += u64::from(plain >> 16 & 0xFFFF == 1 && budget >= 60);
     }
     println!("still moving after 60 steps and more: {moving}");
@@ -699,7 +718,7 @@ fn with_nodes(mut table: Vec<u8>, nodes: &[[u8; 4]]) -> Vec<u8> {
 fn root_after(table: &[u8], leaves: [u8; 3]) -> u8 {
     let mut states = [4, leaves[0], leaves[1], leaves[2]];
     let words: Vec<u8> = [32u32, 0, 0, 0].iter().flat_map(|word| word.to_le_bytes()).collect();
-    assert_eq!(reference::step(2, table, &mut states, &words), 0);
+    assert_eq!(step(2, table, &mut states, &words), 0);
     states[0]
 }
 
@@ -795,7 +814,7 @@ fn formulas_of_two_plans() {
     let after = |states: [u8; 5]| {
         let mut states = states;
         let words: Vec<u8> = [32u32, 32, 0, 0, 0].iter().flat_map(|word| word.to_le_bytes()).collect();
-        assert_eq!(reference::step(2, &table, &mut states, &words), 0);
+        assert_eq!(step(2, &table, &mut states, &words), 0);
         states
     };
     // plan 1 is not lost and completes only without its children; plan 0 completes by plan 4 and is lost with it
@@ -818,20 +837,20 @@ fn not_child_0_is_lost_while_child_0_is_neither_rejected_nor_aborted() {
                     continue;
                 }
                 let mut states = [plan, child];
-                assert_eq!(reference::step(rule, &table, &mut states, &[0; 8]), 0);
+                assert_eq!(step(rule, &table, &mut states, &[0; 8]), 0);
                 let lost = !matches!(child, 7 | 8);
                 assert_eq!(states[0] == 7, lost, "rule {rule}, {plan}, {child}");
             }
             // under retry-aborted an Aborted child is lost by rule 1 only
             let retrying = changed(&table, &[(place(0, 3), 1)]);
             let mut states = [plan, 7];
-            assert_eq!(reference::step(rule, &retrying, &mut states, &[0; 8]), 0);
+            assert_eq!(step(rule, &retrying, &mut states, &[0; 8]), 0);
             assert_eq!(states[0] == 7, rule == 2, "rule {rule}, {plan}");
         }
     }
     // and it completes where none has: here the one child was Rejected
     let mut states = [4, 8];
-    assert_eq!(reference::step(2, &table, &mut states, &[32, 0, 0, 0, 0, 0, 0, 0]), 0);
+    assert_eq!(step(2, &table, &mut states, &[32, 0, 0, 0, 0, 0, 0, 0]), 0);
     assert_eq!(states, [6, 8]);
 }
 
@@ -1246,7 +1265,7 @@ fn any_order_tables(flags: u8, named: &[bool]) -> [Vec<u8>; 3] {
 fn activated(rule: u32, table: &[u8], children: &[u8], pick: usize) -> Vec<usize> {
     let mut states = [&[4], children].concat();
     let words: Vec<u8> = (0..states.len()).flat_map(|p| if p == 0 { (pick as u32) << 24 } else { 0 }.to_le_bytes()).collect();
-    assert_eq!(reference::step(rule, table, &mut states, &words), 0);
+    assert_eq!(step(rule, table, &mut states, &words), 0);
     assert_eq!(states[0], 4);
     (0..children.len()).filter(|&rank| children[rank] == 3 && states[rank + 1] == 4).collect()
 }
@@ -1334,9 +1353,9 @@ fn runs_and_records_where_the_pick_is_not_ready() {
     };
     for table in [table, in_2, by_rank] {
         for rule in [1, 2] {
-            for rest in [reference::rest, reference::rest_jumping] {
+            for rest in RUNS {
                 let mut states = [4, 6, 3, 3];
-                assert_eq!(rest(rule, &table, &mut states, &[0; 16], 9), answer(0, 0, 1));
+                assert_eq!(run(rest, rule, &table, &mut states, &[0; 16], 9), answer(0, 0, 1));
                 assert_eq!(states, [4, 6, 3, 4]);
             }
             // a record shows either one, and not both or none, as it did before
@@ -1448,9 +1467,9 @@ fn expect_run(table: &[u8], words: &[u32], from: &[u8], budget: u16, expected: u
     let words = cases::bytes_of_words(words);
     for table in [table.to_vec(), moved(To::Version2, table)] {
         for rule in [1, 2] {
-            for rest in [reference::rest, reference::rest_jumping] {
+            for rest in RUNS {
                 let mut states = from.to_vec();
-                assert_eq!(rest(rule, &table, &mut states, &words, budget), expected);
+                assert_eq!(run(rest, rule, &table, &mut states, &words, budget), expected);
                 assert_eq!(states, left);
             }
         }
@@ -1586,4 +1605,316 @@ fn bounds_refused_in_order() {
     // there is no rule and there are no states: neither 17 nor 11 is looked for, and a pick counts as in a step
     assert_eq!(reference::bound(&T1, &bytes([1 << 24, 0, 0])), figure(3));
     assert_eq!(reference::bound(&T1, &bytes([2 << 24, 0, 0])), answer(12, 0, 0));
+}
+
+// ------------------------------------------------------------------------------------------------
+// Request (ix) of document 02: why a plan moved
+// ------------------------------------------------------------------------------------------------
+
+/// Stands in the causes before: no cause.
+const GARBAGE: u8 = 0xC5;
+
+/// By a rule: the states and the causes that one step leaves.
+fn expect_causes_by(rule: u32, table: &[u8], from: &[u8], words: &[u32], to: &[u8], causes: &[u8]) {
+    let (mut states, mut lent) = (from.to_vec(), vec![GARBAGE; from.len()]);
+    assert_eq!(reference::step(rule, table, &mut states, &cases::bytes_of_words(words), &mut lent), 0);
+    assert_eq!((&states[..], &lent[..]), (to, causes), "by rule {rule} from {from:?} with {words:?}");
+}
+
+/// By both rules and in both versions.
+fn expect_causes(table: &[u8], from: &[u8], words: &[u32], to: &[u8], causes: &[u8]) {
+    for table in [table.to_vec(), moved(To::Version2, table)] {
+        for rule in [1, 2] {
+            expect_causes_by(rule, &table, from, words, to, causes);
+        }
+    }
+}
+
+/// "1 ordered by the parent", the root too; "Filter, setup ... are 2", also where they are absent.
+#[test]
+fn causes_of_t1_from_000() {
+    let causes = [[1, 0, 0], [2, 0, 0], [2, 0, 0], [1, 0, 0], [0, 1, 1], [0, 2, 2], [0, 2, 2], [0, 1, 0]];
+    let mut states = [0, 0, 0];
+    for (expected, causes) in FIRST_EIGHT.into_iter().zip(causes) {
+        expect_causes(&T1, &states, &[0, 0, 0], &expected, &causes);
+        states = expected;
+    }
+    expect_causes(&T1, &[4, 4, 3], &[0, 0, 0], &[4, 4, 3], &[0, 0, 0]);
+}
+
+#[test]
+fn completion_is_its_own() {
+    expect_causes(&T1, &[4, 4, 3], &[0, 32, 0], &[4, 6, 3], &[0, 2, 0]);
+    expect_causes(&T1, &[4, 6, 3], &[0, 0, 0], &[4, 6, 4], &[0, 0, 1]);
+    expect_causes(&T1, &[4, 6, 4], &[0, 0, 32], &[4, 6, 6], &[0, 0, 2]);
+    // a root without complete
+    expect_causes(&T1, &[4, 6, 6], &[0, 0, 0], &[6, 6, 6], &[2, 0, 0]);
+    expect_causes(&T1, &[6, 6, 6], &[0, 0, 0], &[6, 6, 6], &[0, 0, 0]);
+}
+
+/// Plan 1 has a filter or a setup: it holds, it still can, it no longer can. Those of the root are its own too.
+#[test]
+fn selection_and_rejection_are_its_own() {
+    let (filter, setup) = (t1_with(&[(place(1, 4), 33)]), t1_with(&[(place(1, 4), 34)]));
+    for (word, new, cause) in [(65, 2, 2), (64, 1, 0), (0, 8, 2)] {
+        expect_causes(&filter, &[4, 1, 1], &[0, word, 0], &[4, new, 2], &[0, cause, 2]);
+    }
+    for (word, new, cause) in [(130, 3, 2), (128, 2, 0), (0, 8, 2)] {
+        expect_causes(&setup, &[4, 2, 2], &[0, word, 0], &[4, new, 3], &[0, cause, 2]);
+    }
+    let root = table_of(&[(65_535, [0, 0, 1 | 2, 0])]);
+    for (from, word, new, cause) in [(1, 65, 2, 2), (1, 64, 1, 0), (1, 0, 8, 2), (2, 130, 3, 2), (2, 128, 2, 0), (2, 0, 8, 2)] {
+        expect_causes(&root, &[from], &[word], &[new], &[cause]);
+    }
+    // under a Suspended parent, which gives no orders, and would be reactivated if its reactivate held
+    let held = table_of(&[(65_535, [4, 0, 8, 0]), (0, [0, 0, 1 | 2, 0])]);
+    expect_causes(&held, &[5, 1], &[0, 65], &[5, 2], &[0, 2]);
+    expect_causes(&held, &[5, 2], &[0, 0], &[5, 8], &[0, 2]);
+    expect_causes(&held, &[5, 0], &[0, 0], &[5, 0], &[0, 0]);
+    expect_causes(&held, &[5, 3], &[0, 0], &[5, 3], &[0, 0]);
+}
+
+/// Each body considers and activates; those with retry-aborted retry.
+#[test]
+fn orders_of_each_body() {
+    for body in 1..=4 {
+        let table = table_of(&[(65_535, [body, 1, 32, 0]), (0, [0, 0, 32, 0])]);
+        for (from, to) in [(0, 1), (3, 4), (7, 1)] {
+            expect_causes(&table, &[4, from], &[0, 0], &[4, to], &[0, 1]);
+        }
+        // a parent that is reactivated gives no orders yet
+        for state in [0, 3, 7] {
+            expect_causes(&table, &[5, state], &[0, 0], &[4, state], &[2, 0]);
+        }
+    }
+    expect_causes(&two(5), &[4, 7, 0], &[0, 0, 0], &[4, 7, 1], &[0, 0, 1]);
+    expect_causes(&two(6), &[4, 5, 0], &[0, 0, 0], &[4, 4, 1], &[0, 2, 1]);
+    expect_causes(&two(7), &[4, 7, 3], &[0, 0, 0], &[4, 7, 4], &[0, 0, 1]);
+    expect_causes(&two(8), &[4, 0, 0], &[0, 0, 0], &[4, 0, 1], &[0, 0, 1]);
+    expect_causes(&two(8), &[4, 0, 0], &[IF_SATISFIED | IF_SATISFIABLE, 0, 0], &[4, 1, 0], &[0, 1, 0]);
+}
+
+/// An unordered root with abort and complete that needs plan 1; plan 1 and plan 2 are leaves with abort and complete.
+fn needing_plan_1() -> Vec<u8> {
+    table_of(&[(65_535, [4, 0, 48, 1]), (0, [0, 4, 48, 0]), (0, [0, 0, 48, 0])])
+}
+
+/// "Own abort goes before lost children"
+#[test]
+fn own_abort_and_lost_children() {
+    let table = needing_plan_1();
+    // a leaf's own
+    expect_causes(&table, &[4, 4, 4], &[0, 16, 0], &[4, 7, 4], &[0, 2, 0]);
+    // the root's: its own, its lost child, both
+    expect_causes(&table, &[4, 4, 4], &[16, 0, 0], &[7, 7, 7], &[2, 4, 4]);
+    expect_causes(&table, &[4, 7, 4], &[0, 0, 0], &[7, 7, 7], &[3, 0, 4]);
+    expect_causes(&table, &[4, 8, 4], &[0, 0, 0], &[7, 8, 7], &[3, 0, 4]);
+    expect_causes(&table, &[4, 7, 4], &[16, 0, 0], &[7, 7, 7], &[2, 0, 4]);
+    // the same of a Suspended root
+    expect_causes(&table, &[5, 5, 5], &[16, 0, 0], &[7, 7, 7], &[2, 4, 4]);
+    expect_causes(&table, &[5, 7, 5], &[0, 0, 0], &[7, 7, 7], &[3, 0, 4]);
+    expect_causes(&table, &[5, 7, 5], &[16, 0, 0], &[7, 7, 7], &[2, 0, 4]);
+    // and of a plan that is not the root: plan 1 needs plan 2
+    let chain = table_of(&[(65_535, [4, 0, 32, 0]), (0, [4, 4, 16, 1]), (1, [0, 4, 32, 0])]);
+    for from in [4, 5] {
+        for lost in [7, 8] {
+            expect_causes(&chain, &[4, from, lost], &[0, 0, 0], &[4, 7, lost], &[0, 3, 0]);
+            expect_causes(&chain, &[4, from, lost], &[0, 16, 0], &[4, 7, lost], &[0, 2, 0]);
+        }
+        expect_causes(&chain, &[4, from, 3], &[0, 16, 0], &[4, 7, 8], &[0, 2, 4]);
+    }
+}
+
+/// An Aborted child that is retried is lost by rule 1 only.
+#[test]
+fn lost_by_a_rule() {
+    expect_causes_by(1, &t1_retrying(), &[4, 7, 3], &[0, 0, 0], &[7, 7, 8], &[3, 0, 4]);
+    expect_causes_by(2, &t1_retrying(), &[4, 7, 3], &[0, 0, 0], &[4, 1, 3], &[0, 1, 0]);
+}
+
+/// A formula with a "not" fails though no child is lost: it is told as lost children all the same.
+#[test]
+fn lost_by_a_formula() {
+    let table = formula_table(0, 1, &[], &[[1, 1, 0, 0], CHILD_0]);
+    for rule in [1, 2] {
+        expect_causes_by(rule, &table, &[4, 0], &[0, 0], &[7, 0], &[3, 0]);
+        expect_causes_by(rule, &table, &[4, 3], &[0, 0], &[7, 8], &[3, 4]);
+    }
+}
+
+/// An unordered root and a leaf, each with suspend, reactivate, abort and complete.
+fn suspending() -> Vec<u8> {
+    table_of(&[(65_535, [4, 0, 60, 0]), (0, [0, 0, 60, 0])])
+}
+
+/// "a forced suspension before an own one"; "reactivation" is 2
+#[test]
+fn suspension_and_reactivation() {
+    let table = suspending();
+    expect_causes(&table, &[4, 4], &[0, 4], &[4, 5], &[0, 2]);
+    expect_causes(&table, &[4, 4], &[4, 0], &[5, 5], &[2, 4]);
+    expect_causes(&table, &[4, 4], &[4, 4], &[5, 5], &[2, 4]);
+    expect_causes(&table, &[5, 5], &[8, 8], &[4, 4], &[2, 2]);
+    expect_causes(&table, &[5, 5], &[8, 0], &[4, 5], &[2, 0]);
+    expect_causes(&table, &[5, 5], &[0, 8], &[5, 5], &[0, 0]);
+    expect_causes(&table, &[4, 5], &[0, 8], &[4, 4], &[0, 2]);
+    // a Suspended plan stays so, whatever suspends it once more
+    expect_causes(&table, &[4, 5], &[4, 4], &[5, 5], &[2, 0]);
+    // an absent reactivate holds
+    let without = t1_with(&[(place(0, 4), 4)]);
+    expect_causes(&without, &[5, 5, 3], &[0, 0, 0], &[4, 4, 3], &[2, 2, 0]);
+}
+
+/// Under a Suspended parent a plan's own abort and its lost children go before the suspension.
+#[test]
+fn aborted_though_the_parent_is_suspended() {
+    expect_causes(&suspending(), &[4, 4], &[4, 16], &[5, 7], &[2, 2]);
+    expect_causes(&suspending(), &[4, 4], &[4, 16 | 4], &[5, 7], &[2, 2]);
+    expect_causes(&suspending(), &[5, 5], &[0, 16], &[5, 7], &[0, 2]);
+    let chain = table_of(&[(65_535, [4, 0, 12, 0]), (0, [4, 0, 20, 1]), (1, [0, 4, 32, 0])]);
+    expect_causes(&chain, &[4, 4, 7], &[4, 4, 0], &[5, 7, 7], &[2, 3, 0]);
+    expect_causes(&chain, &[4, 4, 7], &[4, 20, 0], &[5, 7, 7], &[2, 2, 0]);
+    expect_causes(&chain, &[4, 4, 4], &[4, 4, 0], &[5, 5, 5], &[2, 4, 4]);
+}
+
+/// "4 forced by the parent's state", whatever holds of the plan itself: nothing, all, or that it cannot be selected.
+#[test]
+fn under_a_parent_that_ends() {
+    let leaf = (0, [0, 0, 63, 0]);
+    let table = table_of(&[&[(65_535, [4, 0, 48, 0])], &[leaf; 9][..]].concat());
+    let from = [4, 0, 1, 2, 3, 4, 5, 6, 7, 8];
+    for (word, end) in [(32, 6), (16, 7)] {
+        for of_leaves in [0, 64 | 128, 63 | 64 | 128] {
+            let mut words = [of_leaves; 10];
+            words[0] = word;
+            expect_causes(&table, &from, &words, &[end, 0, 8, 8, 8, 7, 7, 6, 7, 8], &[2, 0, 4, 4, 4, 4, 4, 0, 0, 0]);
+        }
+    }
+    // down to the last descendant: plan 1 has lost plan 2 and is told to suspend, plan 3 to abort
+    let deep = table_of(&[(65_535, [4, 0, 32, 0]), (0, [4, 0, 4, 1]), (1, [0, 4, 32, 0]), (1, [0, 0, 48, 0])]);
+    expect_causes(&deep, &[4, 4, 7, 4], &[32, 4, 0, 16], &[6, 7, 7, 7], &[2, 4, 0, 4]);
+}
+
+/// "a reset to Inactive is 4": under a plan that is retried, and under one that is reset itself. Who is Inactive already is not moved.
+#[test]
+fn resets() {
+    let leaf_of = |parent: u16| (parent, [0; 4]);
+    let others = [(65_535, [4, 1, 32, 0]), (0, [4, 0, 32, 0]), (1, [4, 0, 32, 0])];
+    let table = table_of(&[&others[..], &[leaf_of(2), leaf_of(2), leaf_of(1), leaf_of(1), leaf_of(1)]].concat());
+    expect_causes(&table, &[4, 7, 6, 6, 0, 7, 8, 0], &[0; 8], &[4, 1, 0, 0, 0, 0, 0, 0], &[0, 1, 4, 4, 0, 4, 4, 0]);
+    expect_causes(&table, &[4, 7, 7, 8, 7, 6, 6, 6], &[0; 8], &[4, 1, 0, 0, 0, 0, 0, 0], &[0, 1, 4, 4, 4, 4, 4, 4]);
+    expect_causes(&table, &[4, 1, 0, 0, 0, 0, 0, 0], &[0; 8], &[4, 2, 0, 0, 0, 0, 0, 0], &[0, 2, 0, 0, 0, 0, 0, 0]);
+}
+
+/// By both rules and in both versions, plain and jumping: what a run answers, and the states and causes that it leaves.
+fn expect_causes_of_run(table: &[u8], from: &[u8], words: &[u32], budget: u16, expected: u64, left: &[u8], causes: &[u8]) {
+    for table in [table.to_vec(), moved(To::Version2, table)] {
+        for rule in [1, 2] {
+            for rest in RUNS {
+                let (mut states, mut lent) = (from.to_vec(), vec![GARBAGE; from.len()]);
+                assert_eq!(rest(rule, &table, &mut states, &cases::bytes_of_words(words), &mut lent, budget), expected);
+                assert_eq!((&states[..], &lent[..]), (left, causes), "from {from:?} with {words:?} and {budget} steps");
+            }
+        }
+    }
+}
+
+/// "A run gives its last step's causes, all 0 if it took none."
+#[test]
+fn causes_that_a_run_leaves() {
+    // at rest at once; nothing may be taken
+    expect_causes_of_run(&T1, &[4, 4, 3], &[0; 3], 8, answer(0, 0, 0), &[4, 4, 3], &[0, 0, 0]);
+    expect_causes_of_run(&T1, &[4, 4, 3], &[0; 3], 0, answer(0, 0, 0), &[4, 4, 3], &[0, 0, 0]);
+    expect_causes_of_run(&T1, &[0, 0, 0], &[0; 3], 0, answer(0, 1, 0), &[0, 0, 0], &[0, 0, 0]);
+    // rested: of the eighth step, and not of the ninth, in which nothing would move
+    expect_causes_of_run(&T1, &[0, 0, 0], &[0; 3], 8, answer(0, 0, 8), &[4, 4, 3], &[0, 1, 0]);
+    expect_causes_of_run(&T1, &[0, 0, 0], &[0; 3], 65_535, answer(0, 0, 8), &[4, 4, 3], &[0, 1, 0]);
+    // still moving: of the seventh, and not of the eighth
+    expect_causes_of_run(&T1, &[0, 0, 0], &[0; 3], 7, answer(0, 1, 7), &[4, 3, 3], &[0, 2, 2]);
+    expect_causes_of_run(&T1, &[0, 0, 0], &[0; 3], 1, answer(0, 1, 1), &[1, 0, 0], &[1, 0, 0]);
+    expect_causes_of_run(&needing_plan_1(), &[4, 4, 4], &[0, 16, 0], 1, answer(0, 1, 1), &[4, 7, 4], &[0, 2, 0]);
+    expect_causes_of_run(&needing_plan_1(), &[4, 4, 4], &[0, 16, 0], 2, answer(0, 0, 2), &[7, 7, 7], &[3, 0, 4]);
+}
+
+/// Round in a circle the same states may be come to otherwise than for the first time.
+#[test]
+fn causes_that_a_run_in_a_circle_leaves() {
+    // Ready, then Activated and Suspended in turn
+    let swinging = table_of(&[(65_535, [0, 0, 4, 0])]);
+    for (budget, state, cause) in [(0, 3, 0), (1, 4, 1), (2, 5, 2), (3, 4, 2), (4, 5, 2), (65_535, 4, 2)] {
+        expect_causes_of_run(&swinging, &[3], &[4], budget, answer(0, 1, budget.into()), &[state], &[cause]);
+    }
+    // 1 2 3 4 7 and 1 again
+    let retried = table_of(&[(65_535, [4, 1, 32, 0]), (0, [0, 0, 16, 0])]);
+    for (budget, state, cause) in [(0, 1, 0), (1, 2, 2), (2, 3, 2), (3, 4, 1), (4, 7, 2), (5, 1, 1), (12, 3, 2), (65_535, 1, 1)] {
+        expect_causes_of_run(&retried, &[4, 1], &[0, 16], budget, answer(0, 1, budget.into()), &[4, state], &[0, cause]);
+    }
+}
+
+/// The same as so many single steps.
+#[test]
+fn a_run_leaves_the_causes_of_the_last_step_that_it_took() {
+    let mut dice = Dice::new(11);
+    let (mut took_none, mut took_some) = (0, 0);
+    for _ in 0..5_000 {
+        let n = dice.between(1, 8);
+        let table = cases::good_table(&mut dice, n);
+        let plans = good_plans(&table);
+        let from = cases::good_states(&mut dice, &plans);
+        let mood = cases::mood(&mut dice);
+        let words = cases::bytes_of_words(&cases::good_words(&mut dice, &plans, &mood));
+        let (rule, _) = cases::any_rule(&mut dice);
+        let budget = dice.between(0, 6) as u16;
+        let (mut states, mut causes) = (from.clone(), vec![GARBAGE; n]);
+        let steps = reference::rest(rule, &table, &mut states, &words, &mut causes, budget) >> 32;
+        let (mut stepped, mut last) = (from, vec![0; n]);
+        for _ in 0..steps {
+            assert_eq!(reference::step(rule, &table, &mut stepped, &words, &mut last), 0);
+        }
+        assert_eq!((states, causes), (stepped, last));
+        *if steps == 0 { &mut took_none } else { &mut took_some } += 1;
+    }
+    assert!(took_none > 500 && took_some > 500, "{took_none}, {took_some}");
+}
+
+/// A step and runs of T1 with so many causes, which are refused so and leave states and causes as they were.
+fn expect_refused_causes(rule: u32, table: &[u8], states: [u8; 3], words: [u32; 3], causes: usize, expected: u64) {
+    let (mut lent, mut lent_causes, garbage) = (states, vec![GARBAGE; causes], vec![GARBAGE; causes]);
+    assert_eq!(reference::step(rule, table, &mut lent, &bytes(words), &mut lent_causes), expected, "{causes} causes");
+    assert_eq!((lent, &lent_causes), (states, &garbage));
+    for rest in RUNS {
+        assert_eq!(rest(rule, table, &mut lent, &bytes(words), &mut lent_causes, 9), expected, "{causes} causes");
+        assert_eq!((lent, &lent_causes), (states, &garbage));
+    }
+}
+
+/// "Refusals: 10 also for the cause buffer's length."
+#[test]
+fn causes_of_a_wrong_length() {
+    for rule in [1, 2] {
+        for causes in [0, 1, 2, 4, 6, 12, 256, 259] {
+            expect_refused_causes(rule, &T1, [4, 4, 3], [0, 0, 0], causes, answer(10, 0, 0));
+            // before 11 and 12, and behind what the table is refused for
+            expect_refused_causes(rule, &T1, [9, 9, 9], [0, 0, 0], causes, answer(10, 0, 0));
+            expect_refused_causes(rule, &T1, [4, 4, 3], [0, 1, 0], causes, answer(10, 0, 0));
+            expect_refused_causes(rule, &t1_with(&[(place(0, 7), 3)]), [4, 4, 3], [0, 0, 0], causes, answer(9, 0, 0));
+            expect_refused_causes(rule, &T1[..7], [4, 4, 3], [0, 0, 0], causes, answer(1, 0, 0));
+        }
+    }
+    expect_refused_causes(3, &T1, [4, 4, 3], [0, 0, 0], 2, answer(17, 0, 0));
+}
+
+/// "No refusal changes lent bytes", causes of the right length neither.
+#[test]
+fn a_refusal_leaves_the_causes() {
+    expect_refused_causes(2, &T1, [4, 4, 4], [0, 0, 0], 3, answer(11, 2, 0));
+    expect_refused_causes(2, &T1, [0, 0, 0], [0, 1, 0], 3, answer(12, 1, 0));
+    expect_refused_causes(2, &T1[..31], [0, 0, 0], [0, 0, 0], 3, answer(5, 0, 0));
+    expect_refused_causes(0, &T1, [0, 0, 0], [0, 0, 0], 3, answer(17, 0, 0));
+    // 10 of the states or of the words alone
+    for (states, words) in [(2, 12), (4, 12), (3, 8), (3, 16)] {
+        let mut lent = [GARBAGE; 3];
+        assert_eq!(reference::step(2, &T1, &mut vec![0; states], &vec![0; words], &mut lent), answer(10, 0, 0));
+        assert_eq!(lent, [GARBAGE; 3]);
+    }
 }

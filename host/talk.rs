@@ -1,8 +1,9 @@
 //! What differ.rs, bounds.rs and held.rs share: their command line, and a child that is sent calls, whose answers are compared with a
 //! reference's.
 //!
-//! Requests are the tester's own. An answer is a u64; what the call leaves in the buffer that it may write, as many bytes as the reference
-//! says; and a u8, 1 when all other bytes that were lent, and the guard bytes around them, are as they were. Numbers are little-endian.
+//! Requests are the tester's own. An answer is a u64; what the call leaves in the buffers that it may write, one after the other, as many
+//! bytes of each as the reference says; and a u8, 1 when all other bytes that were lent, and the guard bytes around them, are as they were.
+//! Numbers are little-endian.
 //!
 //! Requests come in batches, so the child must send its answers before it waits for the next request. It ends when its standard input does.
 
@@ -93,14 +94,16 @@ pub struct Asked<C> {
     pub number: u64,
     pub call: C,
     pub answer: u64,
-    /// What the call leaves in the buffer that it may write.
-    pub left: Vec<u8>,
+    pub left: Left,
 }
+
+/// What a call leaves in each buffer that it may write.
+pub type Left = Vec<Vec<u8>>;
 
 /// What the child says to a call.
 struct Reply {
     answer: u64,
-    left: Vec<u8>,
+    left: Left,
     guards: u8,
 }
 
@@ -112,7 +115,7 @@ const BATCH_BYTES: usize = 1 << 20;
 /// without one is counted.
 pub fn compare<C: Call>(
     options: &Options,
-    mut next: impl FnMut() -> (C, u64, Vec<u8>),
+    mut next: impl FnMut() -> (C, u64, Left),
     mut count: impl FnMut(&Asked<C>),
 ) -> Result<(), String> {
     let start = Instant::now();
@@ -138,7 +141,7 @@ pub fn compare<C: Call>(
 }
 
 /// The next calls, and their requests.
-fn next_batch<C: Call>(next: &mut impl FnMut() -> (C, u64, Vec<u8>), made: u64, wanted: u64) -> (Vec<Asked<C>>, Vec<u8>) {
+fn next_batch<C: Call>(next: &mut impl FnMut() -> (C, u64, Left), made: u64, wanted: u64) -> (Vec<Asked<C>>, Vec<u8>) {
     let (mut batch, mut requests) = (Vec::new(), Vec::new());
     while batch.len() < BATCH_CALLS && requests.len() < BATCH_BYTES && made + (batch.len() as u64) < wanted {
         let (call, answer, left) = next();
@@ -154,13 +157,18 @@ fn difference<C>(asked: &Asked<C>, reply: &Reply) -> Option<String> {
         return None;
     }
     Some(format!(
-        "expected {}\n  leaves {}\nreceived {}\n  leaves {}\n  guards {}",
+        "expected {}\n{}received {}\n{}  guards {}",
         in_words(asked.answer),
-        hex(&asked.left),
+        told_left(&asked.left),
         in_words(reply.answer),
-        hex(&reply.left),
+        told_left(&reply.left),
         if reply.guards == 1 { "intact" } else { "broken" },
     ))
+}
+
+/// A line for each buffer.
+fn told_left(left: &Left) -> String {
+    left.iter().map(|bytes| format!("  leaves {}\n", hex(bytes))).collect()
 }
 
 fn report<C: Call>(seed: u64, asked: &Asked<C>, what: &str) -> String {
@@ -217,7 +225,7 @@ impl Talk {
                     process.kill().ok();
                 }
             });
-            let reply = |asked: &Asked<C>| read_reply(from_child, asked.left.len()).ok();
+            let reply = |asked: &Asked<C>| read_reply(from_child, &asked.left).ok();
             let replies = batch.iter().map_while(reply).collect();
             drop(all_read);
             replies
@@ -248,12 +256,13 @@ impl Drop for Talk {
     }
 }
 
-fn read_reply(from_child: &mut impl Read, length: usize) -> io::Result<Reply> {
+/// Its buffers are as long as those that the reference leaves.
+fn read_reply(from_child: &mut impl Read, expected: &Left) -> io::Result<Reply> {
     let mut answer = [0; 8];
-    let mut left = vec![0; length];
+    let mut left: Left = expected.iter().map(|bytes| vec![0; bytes.len()]).collect();
     let mut guards = [0];
     from_child.read_exact(&mut answer)?;
-    from_child.read_exact(&mut left)?;
+    left.iter_mut().try_for_each(|bytes| from_child.read_exact(bytes))?;
     from_child.read_exact(&mut guards)?;
     Ok(Reply { answer: u64::from_le_bytes(answer), left, guards: guards[0] })
 }

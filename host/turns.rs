@@ -13,7 +13,7 @@ const FOR_TWO: [u8; 4] =
 // Orders
 // ------------------------------------------------------------------------------------------------
 
-const STATES: [&str; 9] = [
+pub const STATES: [&str; 9] = [
     "Inactive",
     "Considered",
     "Possible",

@@ -5,7 +5,7 @@
  * treatment records. Two move a table from one version to the other, and three make what a word says of a pattern from how long the pattern
  * has held. All are written in Rattle and proved (crate `tablet`). Link with libasbru.a, which `make` writes for x86-64. docs/RULES.md,
  * which `make install` puts into share/doc/asbru, has the rules in words, in numbered paragraphs: 'RULES 5.3' here. asbru_text.h, which is
- * not proved, has a text for each state, body, kind of node and number.
+ * not proved, has a text for each state, cause, body, kind of node and number.
  *
  *
  * RULE 1 AND RULE 2
@@ -21,9 +21,9 @@
  * Each buffer of bytes is a pointer followed by its length in bytes; samples are a pointer followed by their number, and an annotation is a
  * pointer to its ASBRU_BOUNDS numbers. The pointer may be NULL where the length is 0. Any bytes, numbers and lengths may be handed in: what
  * is wrong with them is answered by number and place. The caller keeps two promises that no code can check: what it hands in is there
- * (readable, and `states`, `output` and the annotation to be normalised writable), and `states` and `output` overlap no other buffer of the
- * call: a table cannot be moved onto itself. Numbers are little-endian. n is the number of plans, 1 to 256; plans are numbered from 0,
- * parents before their children.
+ * (readable, and `states`, `causes`, `output` and the annotation to be normalised writable), and `states`, `causes` and `output` overlap no
+ * other buffer of the call: a table cannot be moved onto itself. Numbers are little-endian. n is the number of plans, 1 to 256; plans are
+ * numbered from 0, parents before their children.
  *
  * Table: 8 + 8n bytes in version 1, and in version 2 the nodes behind them: 8 + 8n + 2 + 4k bytes.
  *   0-2  the mark 'A' 'P' 'T'
@@ -59,6 +59,9 @@
  *
  * Words: 4n bytes, a 32-bit word for each plan, which says what is so of that plan in one step. It is put together by `|` from the
  *   ASBRU_ macros below; asbru_put_word puts it at its place. All other bits are 0.
+ *
+ * Causes: n bytes, which asbru_step and asbru_rest write: one of `enum asbru_cause` for each plan, why it moved in that step (RULES section
+ *   15). What stood there before is not looked at, and nothing reads them again: neither the next step nor a record needs them.
  *
  * Record: 8 bytes, and 5n more for each of its 0 to 65535 steps.
  *   0-7  a header as the table's, with the mark 'A' 'P' 'R' and the same n; its version is ASBRU_FORMAT, whatever the table's
@@ -149,14 +152,15 @@
  *
  * WHAT A CALL TOUCHES
  *
- * `states` is all that is written, by asbru_step and asbru_rest, `output` by the moves, and the annotation by asbru_normalise, and only
- * where the answer's number is ASBRU_DONE: after a refusal they are as they were. Of `output` the bytes of the table are written, which the
- * answer counts, and none past them. Nothing is allocated, nothing is kept from one call to the next, and nothing global is read or
- * written, so calls from several threads are independent as long as no thread writes a buffer that another call uses: tables may be shared,
- * states may not. Every call returns. A call of asbru_step, asbru_rest or asbru_check takes about 26 KiB of stack, whatever it is handed,
- * and in version 2 up to 16 KiB more, the deeper a formula goes (256 nodes at most). Its time grows with n and k, of asbru_rest with both
- * for each step taken (at most 65535), of asbru_check with the record's length, of asbru_pattern with the number of samples. asbru_bound
- * makes no steps: its time grows with n and k, and it takes about 6 KiB of stack, as a move does; the calls about patterns less than 1 KiB.
+ * `states` and `causes` are all that is written, by asbru_step and asbru_rest, `output` by the moves, and the annotation by
+ * asbru_normalise, and only where the answer's number is ASBRU_DONE: after a refusal they are as they were. Of `output` the bytes of the
+ * table are written, which the answer counts, and none past them. Nothing is allocated, nothing is kept from one call to the next, and
+ * nothing global is read or written, so calls from several threads are independent as long as no thread writes a buffer that another call
+ * uses: tables may be shared, states may not. Every call returns. A call of asbru_step, asbru_rest or asbru_check takes about 26 KiB of
+ * stack, whatever it is handed, and in version 2 up to 16 KiB more, the deeper a formula goes (256 nodes at most). Its time grows with n
+ * and k, of asbru_rest with both for each step taken (at most 65535), of asbru_check with the record's length, of asbru_pattern with the
+ * number of samples. asbru_bound makes no steps: its time grows with n and k, and it takes about 6 KiB of stack, as a move does; the calls
+ * about patterns less than 1 KiB.
  */
 #ifndef ASBRU_H
 #define ASBRU_H
@@ -169,7 +173,7 @@ extern "C" {
 #endif
 
 /* Raised by one whenever a function, a format, a number or a rule changes: CHANGELOG.md says how. */
-#define ASBRU_VERSION 8
+#define ASBRU_VERSION 9
 
 /* Limits, and the sizes of what buffers hold. */
 enum asbru_size {
@@ -252,6 +256,15 @@ enum asbru_state {
     ASBRU_REJECTED
 };
 
+/* Why a plan moved in a step: a byte of the causes (RULES section 15). */
+enum asbru_cause {
+    ASBRU_UNMOVED,       /* its state is as it was */
+    ASBRU_ORDERED,       /* its parent considered, activated or retried it; the root's moves to Considered and from Ready count so too */
+    ASBRU_OWN_CONDITION, /* its filter, setup, suspend, reactivate, abort or complete: it held, or filter or setup is not satisfiable */
+    ASBRU_CHILDREN_LOST, /* too many of its children were lost, and its own abort does not hold */
+    ASBRU_FORCED         /* its parent's new state: reset to Inactive, Rejected or Aborted under an ended one, Suspended with it */
+};
+
 /* What a word says, c being a condition. Bits 0-5: its pattern is satisfied. */
 #define ASBRU_SATISFIED(c) ((uint32_t)1 << (c))
 /* Bits 6, 7: filter or setup can still be satisfied; set wherever it is satisfied, whether or not the plan has the condition. */
@@ -319,7 +332,7 @@ enum asbru_answer {
     ASBRU_REFUSED_UNFIT = 8,
     /* [plan] the wait number, or in version 2 that of an ASBRU_AT_LEAST in the plan's formula, is above the number of named children */
     ASBRU_REFUSED_WAIT = 9,
-    /* the states are not n bytes or the words not 4n, of asbru_bound the words not 4n; never of asbru_check */
+    /* the states or the causes are not n bytes or the words not 4n, of asbru_bound the words not 4n; never of asbru_check */
     ASBRU_REFUSED_LENGTHS = 10,
     /* [plan] a state is above 8 or does not suit those of the plans before it (RULES 7.5; so of two children the second); only of
        asbru_step and asbru_rest */
@@ -360,19 +373,21 @@ enum asbru_answer {
 };
 
 /*
- * One step of all plans, by a rule and under these words. ASBRU_DONE, with plan 0 and step 0: the new states stand in `states`.
+ * One step of all plans, by a rule and under these words. ASBRU_DONE, with plan 0 and step 0: the new states stand in `states`, and in
+ * `causes` why each plan moved.
  */
 uint64_t asbru_step(uint32_t rule, const uint8_t *table, size_t table_length, uint8_t *states, size_t states_length,
-                    const uint8_t *words, size_t words_length);
+                    const uint8_t *words, size_t words_length, uint8_t *causes, size_t causes_length);
 
 /*
  * Steps by a rule and under the same words until one more would change nothing, but no more steps than the budget. ASBRU_DONE: plan 0
  * says that it rested, and step after how many steps, which is the least such number and at most the budget; plan 1 says that it is still
- * moving, and step is the budget. `states` then holds the states after that many steps. The states between are not shown, and a record
- * needs them: a host that keeps one makes single steps, and hands in a copy of its states where it only looks ahead.
+ * moving, and step is the budget. `states` then holds the states after that many steps, and `causes` the causes of the last of them, all
+ * ASBRU_UNMOVED if it took none. The states and causes between are not shown, and a record needs the states: a host that keeps one makes
+ * single steps, and hands in a copy of its states where it only looks ahead.
  */
 uint64_t asbru_rest(uint32_t rule, const uint8_t *table, size_t table_length, uint8_t *states, size_t states_length,
-                    const uint8_t *words, size_t words_length, uint16_t budget);
+                    const uint8_t *words, size_t words_length, uint8_t *causes, size_t causes_length, uint16_t budget);
 
 /*
  * The most steps that a run under these words takes, where that is known: see HOW LONG A RUN TAKES. ASBRU_DONE: plan 0 says that there is

@@ -1,6 +1,6 @@
 /*
- * asbru_text.h: a text for each state, body, kind of node and answer's number of asbru.h, for what a host shows to people. NOT PROVED:
- * these are words and nothing more. docs/RULES.md says more of each number, in paragraph 10.number.
+ * asbru_text.h: a text for each state, cause, body, kind of node and answer's number of asbru.h, for what a host shows to people. NOT
+ * PROVED: these are words and nothing more. docs/RULES.md says more of each number, in paragraph 10.number.
  */
 #ifndef ASBRU_TEXT_H
 #define ASBRU_TEXT_H
@@ -20,6 +20,18 @@ static inline const char *asbru_state_text(unsigned state) {
     case ASBRU_ABORTED: return "Aborted";
     case ASBRU_REJECTED: return "Rejected";
     default: return "in no state";
+    }
+}
+
+/* Why a plan moved, in words that can follow its new state; of a byte that is no cause, text that says so. */
+static inline const char *asbru_cause_text(unsigned cause) {
+    switch (cause) {
+    case ASBRU_UNMOVED: return "unmoved";
+    case ASBRU_ORDERED: return "ordered by the parent";
+    case ASBRU_OWN_CONDITION: return "by its own condition";
+    case ASBRU_CHILDREN_LOST: return "children lost";
+    case ASBRU_FORCED: return "forced by the parent's state";
+    default: return "for no cause that has a meaning";
     }
 }
 
@@ -67,7 +79,7 @@ static inline const char *asbru_number_text(unsigned number) {
         return "its body does not fit its children or its retry-aborted, an absent condition is manual or overridable, it is the root "
                "and named, or it is a leaf that waits or retries";
     case ASBRU_REFUSED_WAIT: return "it waits for more named children than it has";
-    case ASBRU_REFUSED_LENGTHS: return "the states or the words have not the length that the number of plans asks for";
+    case ASBRU_REFUSED_LENGTHS: return "the states, the words or the causes have not the length that the number of plans asks for";
     case ASBRU_REFUSED_STATE: return "its state cannot stand beside those of the plans before it";
     case ASBRU_REFUSED_WORD:
         return "its word has a bit that has no meaning there, a pick that is not allowed, or a condition satisfied that cannot be";

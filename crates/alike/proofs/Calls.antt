@@ -4,14 +4,14 @@ use native.Mathlib.Omega.{arith}
 use mathlib.Core.Bool.{Bool, true, false}
 use mathlib.Core.Path.{_≡_, refl, _∙_, ap}
 use mathlib.Core.List.{List}
-use Rattle.rules.specs.Lists.{leastFrom, least, Found, Nowhere, At}
+use Rattle.rules.specs.Lists.{leastFrom, least, Found, At}
 use Rattle.rules.specs.Table.{planCount, parent}
 use Rattle.rules.specs.HandedIn.{badState}
-use Rattle.rules.specs.Rest.{after, settled, leastRest, statesAt}
+use Rattle.rules.specs.Rest.{after, settled, leastRest, stepsTaken, lastCauses}
 use Rattle.rules.specs.Answers.{badWord, badRecordWord, lentCheck}
 use Rattle.rules.proofs.Tree.{Tree}
 use Rattle.alike.proofs.Alike.{Alike, same-parent, same-children}
-use Rattle.alike.proofs.Steps.{same-body, same-again, parent-within, same-by-words}
+use Rattle.alike.proofs.Steps.{same-body, same-again, parent-within, same-by-words, same-causes}
 
 -- tests that agree have the same least number that passes
 module _ (f g : ℕ → Bool) where
@@ -46,9 +46,9 @@ module _ {t u : List ℕ} (a : Alike t u) where
         let within = parent-within tree k l in
         rw (same-parent a (suc k) l, same-children a q, same-body a q within, same-again a q within)
 
-    pub same-lent : (s w : List ℕ) → lentCheck u s w ≡ lentCheck t s w
+    pub same-lent : (s w c : List ℕ) → lentCheck u s w c ≡ lentCheck t s w c
     unfolding lentCheck
-    same-lent s w =
+    same-lent s w c =
         rw (
           a .plans,
           same-least (badState u s) (badState t s) (planCount t) (same-bad-state s),
@@ -70,9 +70,14 @@ module _ {t u : List ℕ} (a : Alike t u) where
           settles k = rw (same-after k, same-by-words a tree rule (after rule t s w k) w)
 
       pub same-rest-states :
-          (budget : ℕ) → statesAt rule u s w budget (leastRest rule u s w budget) ≡ statesAt rule t s w budget (leastRest rule t s w budget)
-      same-rest-states budget = ap (statesAt rule u s w budget) (same-rest budget) ∙ at (leastRest rule t s w budget)
-        where
-          at : (found : Found) → statesAt rule u s w budget found ≡ statesAt rule t s w budget found
-          at (At k) = same-after k
-          at Nowhere = same-after budget
+          (budget : ℕ) → after rule u s w (stepsTaken rule u s w budget) ≡ after rule t s w (stepsTaken rule t s w budget)
+      same-rest-states budget = rw (stepsTaken, same-rest budget) (same-after (stepsTaken rule t s w budget))
+
+      same-last : (k : ℕ) → lastCauses rule u s w k ≡ lastCauses rule t s w k
+      unfolding lastCauses
+      same-last zero = rw (a .plans) refl
+      same-last (suc k) = rw (same-after k) (same-causes a tree rule (after rule t s w k) w)
+
+      pub same-rest-causes :
+          (budget : ℕ) → lastCauses rule u s w (stepsTaken rule u s w budget) ≡ lastCauses rule t s w (stepsTaken rule t s w budget)
+      same-rest-causes budget = rw (stepsTaken, same-rest budget) (same-last (stepsTaken rule t s w budget))

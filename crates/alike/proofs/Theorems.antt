@@ -1,5 +1,6 @@
 -- What document 02 (vi) promises of a table that is moved into the other version: two tables that are alike, and that both pass their
--- checks, answer alike. Every call refuses the same or leaves the same states, and every record gets the same verdicts. Assumes nothing.
+-- checks, answer alike. Every call refuses the same or leaves the same states and causes, and every record gets the same verdicts. Assumes
+-- nothing.
 use Prim.Native.Nat.{ℕ, suc, _-_}
 use mathlib.Core.Path.{_≡_, sym, _∙_, ap}
 use mathlib.Core.Bool.{cond, _&&_}
@@ -18,8 +19,10 @@ use Rattle.rules.specs.Answers.{
   restAnswer,
   stepAnswer,
   stepStates,
+  stepCauses,
   runAnswer,
   runStates,
+  runCauses,
   recordCheck,
   Judged,
 }
@@ -35,8 +38,8 @@ use Rattle.rules.proofs.Outcomes.{then-next}
 use Rattle.rules.proofs.Verdicts.{still-judged}
 use Rattle.alike.specs.SameCalls.{SameCalls}
 use Rattle.alike.proofs.Alike.{Alike, alike-sym}
-use Rattle.alike.proofs.Steps.{same-under, same-by-words}
-use Rattle.alike.proofs.Calls.{same-lent, same-rest, same-rest-states}
+use Rattle.alike.proofs.Steps.{same-under, same-by-words, same-causes}
+use Rattle.alike.proofs.Calls.{same-lent, same-rest, same-rest-states, same-rest-causes}
 use Rattle.alike.proofs.SubTrees.{same-last}
 use Rattle.alike.proofs.Records.{same-count, same-form, same-words-check, explains-first}
 
@@ -80,27 +83,34 @@ module _ {t u : List ℕ} (a : Alike t u) (done : tableCheck t ≡ Done) (done�
   pub same-table-verdict : tableVerdict u ≡ tableVerdict t
   same-table-verdict = table-accepted u done′ ∙ ap verdict.Accepted (a .plans) ∙ sym (table-accepted t done)
 
-  -- A call is refused under both tables, by the same number at the same place, or under neither; and it leaves the same states.
-  module _ (rule : ℕ) (s w : List ℕ) where
-    pub same-call-check : callCheck rule u s w ≡ callCheck rule t s w
+  -- A call is refused under both tables, by the same number at the same place, or under neither; and it leaves the same states and causes.
+  module _ (rule : ℕ) (s w c : List ℕ) where
+    pub same-call-check : callCheck rule u s w c ≡ callCheck rule t s w c
     unfolding callCheck
-    same-call-check = same-checked rule (same-lent a shape s w)
+    same-call-check = same-checked rule (same-lent a shape s w c)
 
     -- the step
-    pub same-step-answer : stepAnswer rule u s w ≡ stepAnswer rule t s w
+    pub same-step-answer : stepAnswer rule u s w c ≡ stepAnswer rule t s w c
     same-step-answer = same-call-check
 
-    pub same-step-states : stepStates rule u s w ≡ stepStates rule t s w
+    pub same-step-states : stepStates rule u s w c ≡ stepStates rule t s w c
     same-step-states = same-by-check (λ why. s) same-call-check (same-step-by-words a done rule s w)
 
+    pub same-step-causes : stepCauses rule u s w c ≡ stepCauses rule t s w c
+    same-step-causes = same-by-check (λ why. c) same-call-check (same-causes a shape rule s w)
+
     -- the run
-    pub same-run-answer : (budget : ℕ) → runAnswer rule u s w budget ≡ runAnswer rule t s w budget
+    pub same-run-answer : (budget : ℕ) → runAnswer rule u s w c budget ≡ runAnswer rule t s w c budget
     unfolding runAnswer
     same-run-answer budget = same-by-check rest.Refused same-call-check (ap restAnswer (same-rest a shape rule s w budget))
 
-    pub same-run-states : (budget : ℕ) → runStates rule u s w budget ≡ runStates rule t s w budget
+    pub same-run-states : (budget : ℕ) → runStates rule u s w c budget ≡ runStates rule t s w c budget
     unfolding runStates
     same-run-states budget = same-by-check (λ why. s) same-call-check (same-rest-states a shape rule s w budget)
+
+    pub same-run-causes : (budget : ℕ) → runCauses rule u s w c budget ≡ runCauses rule t s w c budget
+    unfolding runCauses
+    same-run-causes budget = same-by-check (λ why. c) same-call-check (same-rest-causes a shape rule s w budget)
 
   -- The sub tree question shows the same states.
   pub same-sub-tree : (s : List ℕ) (p : ℕ) → subTree u s p ≡ subTree t s p
@@ -135,8 +145,10 @@ same-calls a done done′ =
       table-verdict = same-table-verdict a done done′;
       step-answer = same-step-answer a done done′;
       step-states = same-step-states a done done′;
+      step-causes = same-step-causes a done done′;
       run-answer = same-run-answer a done done′;
       run-states = same-run-states a done done′;
+      run-causes = same-run-causes a done done′;
       sub-trees = same-sub-tree a done done′;
       verdicts = λ rule r v. (same-verdict a done done′ rule r v, same-verdict (alike-sym a) done′ done rule r v);
     }
@@ -146,10 +158,12 @@ pub same-calls-then : {t u x : List ℕ} → SameCalls t u → SameCalls u x →
 same-calls-then one two =
     record {
       table-verdict = two .table-verdict ∙ one .table-verdict;
-      step-answer = λ rule s w. two .step-answer rule s w ∙ one .step-answer rule s w;
-      step-states = λ rule s w. two .step-states rule s w ∙ one .step-states rule s w;
-      run-answer = λ rule s w budget. two .run-answer rule s w budget ∙ one .run-answer rule s w budget;
-      run-states = λ rule s w budget. two .run-states rule s w budget ∙ one .run-states rule s w budget;
+      step-answer = λ rule s w c. two .step-answer rule s w c ∙ one .step-answer rule s w c;
+      step-states = λ rule s w c. two .step-states rule s w c ∙ one .step-states rule s w c;
+      step-causes = λ rule s w c. two .step-causes rule s w c ∙ one .step-causes rule s w c;
+      run-answer = λ rule s w c budget. two .run-answer rule s w c budget ∙ one .run-answer rule s w c budget;
+      run-states = λ rule s w c budget. two .run-states rule s w c budget ∙ one .run-states rule s w c budget;
+      run-causes = λ rule s w c budget. two .run-causes rule s w c budget ∙ one .run-causes rule s w c budget;
       sub-trees = λ s p. two .sub-trees s p ∙ one .sub-trees s p;
       verdicts = λ rule r v.
           let there = one .verdicts rule r v in

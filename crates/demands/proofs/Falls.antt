@@ -10,7 +10,7 @@ use lib.Dec.{T, T-not, not-T, leb, ltb}
 use Rattle.rules.specs.States.{stateAt, is}
 use Rattle.rules.specs.Table.{planCount, parent, entry, retryAborted}
 use Rattle.rules.specs.Words.{word, holds}
-use Rattle.rules.specs.Step.{move, rootOrders, tooManyLost, childrenComplete, moveOf, stepBy}
+use Rattle.rules.specs.Step.{moveBy, move, rootOrders, tooManyLost, childrenComplete, moveOf, stepBy}
 use Rattle.rules.specs.HandedIn.{suits}
 use Rattle.rules.specs.declared.Orders.{Orders}
 use Rattle.rules.specs.declared.PlanEntry.{PlanEntry}
@@ -69,7 +69,7 @@ module _ (o : Orders) (e : PlanEntry) (x : ℕ) (lost mayComplete : Bool) where
   goes now old = move now o e x lost mayComplete old
 
   suspended-by : (now : PlanState) → T (is Suspended (goes now Activated) ⇒ is Suspended now || holds Suspend e x)
-  unfolding move
+  unfolding moveBy
   suspended-by Inactive = tt
   suspended-by Considered = tt
   suspended-by Possible = tt
@@ -84,7 +84,7 @@ module _ (o : Orders) (e : PlanEntry) (x : ℕ) (lost mayComplete : Bool) where
   suspended-by Rejected = tt
 
   reactivated-by : (now : PlanState) → T (is Activated (goes now Suspended) ⇒ holds Reactivate e x)
-  unfolding move
+  unfolding moveBy
   reactivated-by Inactive = tt
   reactivated-by Considered = tt
   reactivated-by Possible = tt

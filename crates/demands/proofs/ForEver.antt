@@ -10,6 +10,7 @@ use mathlib.Core.List.{List, [], _∷_, _++_}
 use lib.Dec.{T, eqb, eqb→eq}
 use lib.ListN.{length, length-append}
 use Rattle.rules.specs.Lists.{same, leastFrom, someBelow, Nowhere}
+use Rattle.rules.specs.Table.{planCount}
 use Rattle.rules.specs.Words.{holds}
 use Rattle.rules.specs.Step.{step}
 use Rattle.rules.specs.Rest.{after, settled, leastRest}
@@ -33,6 +34,7 @@ use Rattle.demands.specs.Cases.{
   table,
 }
 use Rattle.demands.proofs.Tests.{left, right, either, is-true, is-false}
+use Rattle.demands.proofs.PassedCall.{room-counts, lengths}
 
 -- A run that comes back to its states, and has changed some in each step until then, never rests.
 module _
@@ -61,9 +63,9 @@ module _
   none-found p zero = refl
   none-found p (suc k) = rw (never-settled (suc p) p (omega arith), leastFrom) (none-found (p + 1) k)
 
-  still-moving : callCheck rule t s w ≡ Done → (budget : ℕ) → runAnswer rule t s w budget ≡ Moving
+  still-moving : (c : List ℕ) → callCheck rule t s w c ≡ Done → (budget : ℕ) → runAnswer rule t s w c budget ≡ Moving
   unfolding runAnswer leastRest
-  still-moving done budget = rw (runAnswer, done, none-found 0 (suc budget)) refl
+  still-moving c done budget = rw (runAnswer, done, none-found 0 (suc budget)) refl
 
 -- Along the states of a row each step changes some, and the last are reached.
 module _ (rule : ℕ) (t w : List ℕ) where
@@ -101,13 +103,17 @@ module _ (rule : ℕ) (t w : List ℕ) where
       ∙ ap (λ (y : List ℕ). after rule t y w (suc (length xs))) (stepped s x (xs ++ (e ∷ [])) h)
       ∙ path-ends x xs e (onward s x (xs ++ (e ∷ [])) h)
 
-  pub round-moves : (s : List ℕ) (xs : List (List ℕ)) → T (rounds t w s xs rule) → (budget : ℕ) → runAnswer rule t s w budget ≡ Moving
-  round-moves s xs h =
-      let done : Bool = isDone (callCheck rule t s w) in
+  pub round-moves :
+      (s : List ℕ) (xs : List (List ℕ)) → T (rounds t w s xs rule) → (c : List ℕ) → length c ≡ planCount t → (budget : ℕ)
+      → runAnswer rule t s w c budget ≡ Moving
+  round-moves s xs h c room =
+      let done : Bool = isDone (callCheck rule t s w s) in
+      let passed = is-done (callCheck rule t s w s) (left done (path rule t w s (xs ++ (s ∷ []))) h) in
+      let roomy = room ∙ sym (lengths rule t s w s passed .0) in
       let whole = right done (path rule t w s (xs ++ (s ∷ []))) h in
       still-moving rule t s w (suc (length xs)) (omega arith) (path-ends s xs s whole)
       (λ k l. path-changes s (xs ++ (s ∷ [])) whole k (omega (arith, length-append xs (s ∷ []))))
-      (is-done (callCheck rule t s w) (left done (path rule t w s (xs ++ (s ∷ []))) h))
+      c (room-counts rule t s w c s roomy ∙ passed)
 
 -- A run that goes round by both rules moves for ever.
 abbrev byBoth : List ℕ → List ℕ → List ℕ → List (List ℕ) → Bool
@@ -123,14 +129,15 @@ module _ (t w s : List ℕ) (xs : List (List ℕ)) (h : T (byBoth t w s xs)) whe
       (either (eqb rule 1) (eqb rule 2) known)
 
   for-ever : MovesForEver t w s
-  for-ever = record { moves = λ rule budget known. round-moves rule t w s xs (by-each rule known) budget }
+  for-ever = record { moves = λ rule c budget known room. round-moves rule t w s xs (by-each rule known) c room budget }
 
   -- so no figure at all could be promised under these words: a run by either rule would break it
   no-figure : (rule : ℕ) → T (isRule rule) → (most : ℕ) → RestsWithin t w most → ⊥
   no-figure rule known most kept =
-      let done = is-done (callCheck rule t s w) (left (isDone (callCheck rule t s w)) _ (by-each rule known)) in
-      let run = kept .rests rule s most done (omega arith) in
-      let both : Rested (run .steps) ≡ Moving = sym (run .answer) ∙ for-ever .moves rule most known in
+      let done = is-done (callCheck rule t s w s) (left (isDone (callCheck rule t s w s)) _ (by-each rule known)) in
+      let run = kept .rests rule s s most done (omega arith) in
+      let both : Rested (run .steps) ≡ Moving =
+      sym (run .answer) ∙ for-ever .moves rule s most known (lengths rule t s w s done .0) in
       let z : _≡_ {A = ℕ} 0 1 = cc in
       absurd (omega arith)
 
@@ -165,7 +172,8 @@ swings-for-ever =
       turns =
           λ rule known.
           let up-again : List (List ℕ) = (4 ∷ []) ∷ [] in
-          let whole = right (isDone (callCheck rule swing (4 ∷ []) pushed)) _ (by-each swing pushed (4 ∷ []) down (both-go-round .0) rule known) in
+          let done : Bool = isDone (callCheck rule swing (4 ∷ []) pushed (4 ∷ [])) in
+          let whole = right done _ (by-each swing pushed (4 ∷ []) down (both-go-round .0) rule known) in
           let falls = stepped rule swing pushed (4 ∷ []) (5 ∷ []) up-again whole in
           let rises = stepped rule swing pushed (5 ∷ []) (4 ∷ []) [] (onward rule swing pushed (4 ∷ []) (5 ∷ []) up-again whole) in
           (falls, rises);

@@ -16,7 +16,7 @@ use Rattle.rules.specs.Table.{planCount, childrenBefore, children, rank, isOrIs
 use Rattle.rules.specs.WaitFor.{waitFor}
 use Rattle.rules.specs.Words.{holds, satisfiable}
 use Rattle.rules.specs.Step.{
-  move,
+  moveBy,
   tooManyLost,
   allEnded,
   childrenComplete,
@@ -197,7 +197,7 @@ differ-1 e = omega (arith, e)
 
 pub lively : Lively
 unfolding
-    leastFrom stateAt childrenBefore children rank isOrIsAbove waitFor holds satisfiable move tooManyLost allEnded childrenComplete
+    leastFrom stateAt childrenBefore children rank isOrIsAbove waitFor holds satisfiable moveBy tooManyLost allEnded childrenComplete
     firstNotDone gateOpen mayActivate fallback readyOr chosen due orders stepFirst stepBy stepUnder undefinedEntry unfitEntry unrooted
     badParent undefinedByte unfit tooMany badWait _andThen_ refuseIf refuseAt headerCheck plansCheck ruleCheck tableCheck
     badRecordWord formCheck recordCheck wordsCheck tableLength activatedChild witness

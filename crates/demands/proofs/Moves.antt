@@ -9,7 +9,7 @@ use lib.Dec.{T, eqb, eqb-refl}
 use Rattle.rules.specs.States.{code, oneOf, is, inSelection, inExecution, ended}
 use Rattle.rules.specs.Words.{holds, satisfiable}
 use Rattle.rules.specs.Table.{isBody}
-use Rattle.rules.specs.Step.{move}
+use Rattle.rules.specs.Step.{moveBy, move}
 use Rattle.rules.specs.HandedIn.{suits, letsLater}
 use Rattle.rules.specs.declared.Body.{Body}
 use Rattle.rules.specs.declared.Body.the-variants.{
@@ -77,7 +77,7 @@ module _ (o : Orders) (e : PlanEntry) (x : ℕ) (lost mayComplete : Bool) where
     held = is Suspended parent
 
     executing-goes : (old : PlanState) → T (goes parent o old (move parent o e x lost mayComplete old))
-    unfolding move
+    unfolding moveBy
     executing-goes Inactive =
         rw (begun, goes-on) (cond-by (λ y. T (goesOn held o Inactive y)) (o .considers) (λ h. h) (λ h. tt))
     executing-goes Considered =
@@ -105,7 +105,7 @@ module _ (o : Orders) (e : PlanEntry) (x : ℕ) (lost mayComplete : Bool) where
     executing-goes Rejected = rw (begun, goes-on) tt
 
   move-goes : (parent old : PlanState) → T (goes parent o old (move parent o e x lost mayComplete old))
-  unfolding move
+  unfolding moveBy
   move-goes Inactive old = tt
   move-goes Considered old = tt
   move-goes Possible old = tt

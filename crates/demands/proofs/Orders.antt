@@ -8,6 +8,7 @@ use Rattle.rules.specs.States.{stateAt, is}
 use Rattle.rules.specs.Table.{entry, bodyOf, ofTwo, retryAborted}
 use Rattle.rules.specs.Words.{word}
 use Rattle.rules.specs.Step.{
+  moveBy,
   move,
   ordersOf,
   none,
@@ -124,7 +125,7 @@ chosen-counts :
     (old : PlanState) → (body ≡ AnyOrder → old ≡ Ready → b ≡ c)
     → move parent (ordersOf body again isNext gate b isDue) e x lost mayComplete old
     ≡ move parent (ordersOf body again isNext gate c isDue) e x lost mayComplete old
-unfolding move
+unfolding moveBy
 chosen-counts parent e x l m Leaf again n g d b c old h = refl
 chosen-counts parent e x l m Sequential again n g d b c old h = refl
 chosen-counts parent e x l m Parallel again n g d b c old h = refl
@@ -147,7 +148,7 @@ chosen-counts parent e x l m AnyOrder again n g d b c Rejected h = refl
 ready-shows :
     (e : PlanEntry) (x : ℕ) (lost mayComplete again isNext gate isDue b : Bool)
     → is Activated (move Activated (ordersOf AnyOrder again isNext gate b isDue) e x lost mayComplete Ready) ≡ b
-unfolding move
+unfolding moveBy
 ready-shows e x lost mayComplete again isNext gate isDue true = refl
 ready-shows e x lost mayComplete again isNext gate isDue false = refl
 

@@ -1,7 +1,7 @@
 -- A call that passes its checks: what is then known of its table, states and words, and of the states after each step of a run. Assumes
 -- nothing.
 use Prim.Native.Nat.{ℕ, zero, suc, _*_}
-use mathlib.Core.Path.{_≡_}
+use mathlib.Core.Path.{_≡_, refl}
 use mathlib.Core.Bool.{false, not, _||_}
 use mathlib.Core.List.{List}
 use lib.Dec.{eqb}
@@ -12,7 +12,7 @@ use Rattle.rules.specs.Words.{word, pickOf}
 use Rattle.rules.specs.Step.{step}
 use Rattle.rules.specs.Rest.{after}
 use Rattle.rules.specs.HandedIn.{badState}
-use Rattle.rules.specs.Answers.{badWord, ruleCheck, tableCheck, lentCheck, callCheck}
+use Rattle.rules.specs.Answers.{badWord, ruleCheck, tableCheck, wrongLengths, lentCheck, callCheck}
 use Rattle.rules.specs.declared.Outcome.the-variants.{Done}
 use Rattle.rules.proofs.Outcomes.{first-done, then-done, if-done, at-done}
 use Rattle.rules.proofs.Least.{nowhere}
@@ -24,25 +24,37 @@ use Rattle.demands.proofs.Valid.{step-passes}
 
 -- check 10 passes: the lengths are right
 pub lengths-agree :
-    (s w : List ℕ) (n : ℕ) → (not (eqb (length s) n) || not (eqb (length w) (4 * n))) ≡ false → (length s ≡ n) × (length w ≡ 4 * n)
-lengths-agree s w n e =
-    let states = not (eqb (length s) n) in
-    let words = not (eqb (length w) (4 * n)) in
-    (eqb-true _ _ (not-false _ (or-left states words e)), eqb-true _ _ (not-false _ (or-right states words e)))
+    (t s w c : List ℕ) → wrongLengths t s w c ≡ false
+    → (length s ≡ planCount t) × (length w ≡ 4 * planCount t) × (length c ≡ planCount t)
+lengths-agree t s w c e =
+    let states = not (eqb (length s) (planCount t)) in
+    let words = not (eqb (length w) (4 * planCount t)) in
+    let causes = not (eqb (length c) (planCount t)) in
+    let before = or-left (states || words) causes e in (
+      eqb-true _ _ (not-false _ (or-left states words before)),
+      eqb-true _ _ (not-false _ (or-right states words before)),
+      eqb-true _ _ (not-false _ (or-right (states || words) causes e)),
+    )
+
+-- of the room for causes only the length counts
+pub room-counts :
+    (rule : ℕ) (t s w c d : List ℕ) → length c ≡ length d → callCheck rule t s w c ≡ callCheck rule t s w d
+unfolding callCheck lentCheck
+room-counts rule t s w c d e = rw e refl
 
 -- A call that passes: its table, what is lent with it, and of that the lengths and the states.
-module _ (rule : ℕ) (t s w : List ℕ) (done : callCheck rule t s w ≡ Done) where
+module _ (rule : ℕ) (t s w c : List ℕ) (done : callCheck rule t s w c ≡ Done) where
   pub table-passes : tableCheck t ≡ Done
   unfolding callCheck
   table-passes = first-done (tableCheck t) _ (then-done (ruleCheck rule) _ done)
 
-  pub lent-passes : lentCheck t s w ≡ Done
+  pub lent-passes : lentCheck t s w c ≡ Done
   unfolding callCheck
   lent-passes = then-done (tableCheck t) _ (then-done (ruleCheck rule) _ done)
 
-  pub lengths : (length s ≡ planCount t) × (length w ≡ 4 * planCount t)
+  pub lengths : (length s ≡ planCount t) × (length w ≡ 4 * planCount t) × (length c ≡ planCount t)
   unfolding lentCheck
-  lengths = lengths-agree s w (planCount t) (if-done _ _ (first-done _ _ lent-passes))
+  lengths = lengths-agree t s w c (if-done _ _ (first-done _ _ lent-passes))
 
   pub handed-in : PassesStates t s
   unfolding lentCheck

@@ -41,18 +41,19 @@ module _ (t w : List ℕ) where
   premises = nobodyRetries t && nobodyHoldsBoth
 
   -- the run by a rule, from states s and with a budget, rests after at most so many steps
-  pub record Rests (most rule : ℕ) (s : List ℕ) (budget : ℕ) : Type 0 where
+  pub record Rests (most rule : ℕ) (s c : List ℕ) (budget : ℕ) : Type 0 where
     pub steps : ℕ
     pub few : steps ≤ most
-    pub answer : runAnswer rule t s w budget ≡ rest.Rested steps
+    pub answer : runAnswer rule t s w c budget ≡ rest.Rested steps
 
   -- so does every run that is not refused: by either rule, from any states that pass check 11, with a budget at least that large
   pub record RestsWithin (most : ℕ) : Type 0 where
-    pub rests : (rule : ℕ) (s : List ℕ) (budget : ℕ) → callCheck rule t s w ≡ Done → most ≤ budget → Rests most rule s budget
+    pub rests : (rule : ℕ) (s c : List ℕ) (budget : ℕ) → callCheck rule t s w c ≡ Done → most ≤ budget → Rests most rule s c budget
 
   -- from states s no run rests, by either rule and with whatever budget
   pub record MovesForEver (s : List ℕ) : Type 0 where
-    pub moves : (rule : ℕ) (budget : ℕ) → T (isRule rule) → runAnswer rule t s w budget ≡ rest.Moving
+    pub moves :
+        (rule : ℕ) (c : List ℕ) (budget : ℕ) → T (isRule rule) → length c ≡ planCount t → runAnswer rule t s w c budget ≡ rest.Moving
 
   -- the checks of the question: the table's, 10 of the words, 12
   unfoldable pub boundCheck : Outcome

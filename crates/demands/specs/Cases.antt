@@ -13,7 +13,7 @@ use Rattle.rules.specs.Table.{planCount, childrenBefore, children, rank, isOrIs
 use Rattle.rules.specs.WaitFor.{formulaHolds, waitFor, firstNodes, askedNodes, uses, ownerWithin, owner}
 use Rattle.rules.specs.Words.{holds, satisfiable}
 use Rattle.rules.specs.Step.{
-  move,
+  moveBy,
   tooManyLost,
   allEnded,
   childrenComplete,
@@ -154,13 +154,13 @@ pub data Row : Type 0 where
   -- a run that goes round: table, words, the states that it starts from, those after each step, and then the first again
   rowRounds : List ℕ → List ℕ → ℕ → List ℕ → Row
 
--- rested, as the run says, in the last of these states
+-- rested, as the run says, in the last of these states; the room for causes is as long as the states, so these stand for it
 abbrev runs : List ℕ → List ℕ → List ℕ → List (List ℕ) → ℕ → Bool
 runs t w s shown rule =
-    path rule t w s shown && isRested (length shown) (runAnswer rule t s w (mostSteps (planCount t)))
+    path rule t w s shown && isRested (length shown) (runAnswer rule t s w s (mostSteps (planCount t)))
 
 abbrev pub rounds : List ℕ → List ℕ → List ℕ → List (List ℕ) → ℕ → Bool
-rounds t w s shown rule = isDone (callCheck rule t s w) && path rule t w s (shown ++ (s ∷ []))
+rounds t w s shown rule = isDone (callCheck rule t s w s) && path rule t w s (shown ++ (s ∷ []))
 
 isWithin : ℕ → Figure → Bool
 isWithin k (figure.Within j) = eqb j k
@@ -265,7 +265,7 @@ table = circling ++ resting ++ answers
 pub rowsHold : allHold table ≡ true
 unfolding
     allHold table leastFrom someBelow highest stateAt childrenBefore children rank isOrIsAbove formulaHolds waitFor firstNodes askedNodes
-    uses ownerWithin owner holds satisfiable move tooManyLost allEnded childrenComplete firstNotDone gateOpen mayActivate fallback readyOr
+    uses ownerWithin owner holds satisfiable moveBy tooManyLost allEnded childrenComplete firstNotDone gateOpen mayActivate fallback readyOr
     chosen due orders stepFirst stepBy stepUnder step badState after leastRest undefinedEntry unfitEntry badBytes wrongWord unrooted
     badParent undefinedByte unfit tooMany strayFirst badNode badRank formulasCheck asksTooMany badWait _andThen_ refuseIf refuseAt
     headerCheck plansCheck tableCheck badWord lentCheck ruleCheck callCheck runAnswer nobodyRetries bothHold nobodyHoldsBoth boundCheck

@@ -2,7 +2,7 @@
 use Prim.Native.Nat.{ℕ, _+_, _*_, _≤_, _<_}
 use native.Mathlib.Omega.{arith}
 use mathlib.Core.Path.{_≡_, sym, _∙_}
-use mathlib.Core.Bool.{true, false, not, _||_}
+use mathlib.Core.Bool.{Bool, true, false, not, _||_}
 use mathlib.Core.List.{List}
 use lib.Dec.{eqb}
 use lib.ListN.{length}
@@ -32,7 +32,7 @@ use Rattle.children.specs.Sets.{Rooted}
 use Rattle.lowest.specs.Lowest.{Lowest}
 use Rattle.table.specs.Facts.{Facts}
 use Rattle.table.proofs.Reading.{found-at, found-none, prepared}
-use Rattle.demands.proofs.PassedCall.{table-passes, lengths, handed-in}
+use Rattle.demands.proofs.PassedCall.{lengths-agree, table-passes, lengths, handed-in}
 use Rattle.lent.specs.Calls.{Counted, Tabled, Called, MayMove}
 
 -- a table that passes: its n plans have earlier parents
@@ -53,17 +53,27 @@ unfolding badWord
 word-tested t w n counts counted p l e x ee ex = rw (ee, ex, counted .counted p l)
 
 -- checks 10 to 12: where they stop
-module _ (t s w : List ℕ) (n : ℕ) (whole : n ≡ planCount t) where
-  pub stops-at-lengths : (not (eqb (length s) n) || not (eqb (length w) (4 * n))) ≡ true → lentCheck t s w ≡ Refused Lengths
+module _ (t s w c : List ℕ) (n : ℕ) (whole : n ≡ planCount t) where
+  -- check 10, as the code makes it
+  abbrev differ : Bool
+  differ = not (eqb (length s) n) || not (eqb (length w) (4 * n)) || not (eqb (length c) n)
+
+  pub stops-at-lengths : differ ≡ true → lentCheck t s w c ≡ Refused Lengths
   unfolding lentCheck
   stops-at-lengths e = stop _ _ _ (rw whole at e)
 
-  module _ (agree : (not (eqb (length s) n) || not (eqb (length w) (4 * n))) ≡ false) where
-    pub stops-at-state : (p : ℕ) → Lowest (badState t s) n p → p < n → lentCheck t s w ≡ Refused (State p)
+  module _ (agree : differ ≡ false) where
+    -- the states' and the words' lengths
+    pub agreed : (length s ≡ n) × (length w ≡ 4 * n)
+    agreed =
+        let long = lengths-agree t s w c (rw whole at agree) in
+        (omega (arith, whole, long .0), omega (arith, whole, long .1))
+
+    pub stops-at-state : (p : ℕ) → Lowest (badState t s) n p → p < n → lentCheck t s w c ≡ Refused (State p)
     unfolding lentCheck
     stops-at-state p lowest l = pass _ _ _ (rw whole at agree) ∙ stop-at _ _ _ p (found-at t n whole _ p lowest l)
 
-    pub only-words : (r : ℕ) → Lowest (badState t s) n r → n ≤ r → lentCheck t s w ≡ callWordsCheck t w
+    pub only-words : (r : ℕ) → Lowest (badState t s) n r → n ≤ r → lentCheck t s w c ≡ callWordsCheck t w
     unfolding lentCheck
     only-words r states none = pass _ _ _ (rw whole at agree) ∙ pass-at _ _ _ (found-none t n whole _ r states none)
 
@@ -89,9 +99,9 @@ counted t counts w tabled n whole long =
     }
 
 -- a call's checks are that of its rule number, its table's, and then those of what is lent with it
-module _ (rule : ℕ) (t s w ranks counts names : List ℕ) where
+module _ (rule : ℕ) (t s w c ranks counts names : List ℕ) where
   abbrev CalledSo : Outcome → Type 0
-  CalledSo outcome = Called rule t s w ranks counts names outcome
+  CalledSo outcome = Called rule t s w c ranks counts names outcome
 
   pub call-unruled : (why : Refusal) → ruleCheck rule ≡ Refused why → CalledSo (Refused why)
   unfolding callCheck
@@ -103,18 +113,18 @@ module _ (rule : ℕ) (t s w ranks counts names : List ℕ) where
     call-refused why e =
         record { is = sym (then-next (ruleCheck rule) _ ruled ∙ then-stops (tableCheck t) _ why e); facts = λ d. refused-not-done why d }
 
-    pub call-lent : (r : Outcome) → tableCheck t ≡ Done → Facts t ranks counts names → r ≡ lentCheck t s w → CalledSo r
+    pub call-lent : (r : Outcome) → tableCheck t ≡ Done → Facts t ranks counts names → r ≡ lentCheck t s w c → CalledSo r
     unfolding callCheck
     call-lent r d known e =
         record { is = e ∙ sym (then-next (ruleCheck rule) _ ruled ∙ then-next (tableCheck t) _ d); facts = λ x. known }
 
   -- where it passes the plans may move
   pub may-move :
-      callCheck rule t s w ≡ Done → Facts t ranks counts names → planCount t ≤ length ranks
+      callCheck rule t s w c ≡ Done → Facts t ranks counts names → planCount t ≤ length ranks
       → planCount t + planCount t ≤ length names → MayMove t s w ranks names
   may-move d known ranks-room names-room =
       record {
-        prepared = prepared t ranks counts names (table-passes rule t s w d) known ranks-room names-room;
-        passes = handed-in rule t s w d;
-        words = lengths rule t s w d .1;
+        prepared = prepared t ranks counts names (table-passes rule t s w c d) known ranks-room names-room;
+        passes = handed-in rule t s w c d;
+        words = lengths rule t s w c d .1;
       }

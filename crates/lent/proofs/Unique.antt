@@ -20,8 +20,8 @@ pub check-call-once : OneAnswer check-call.Post
 check-call-once = record { once = λ κs a z z′ e e′ h h′. one-answer (h .is) (h′ .is) }
 
 pub check-call-facts-once :
-    (κs : Lfts 6) (a : _) (z z′ : Outcome) (e e′ : _) → check-call.Post κs a z e → check-call.Post κs a z′ e′
-    → callCheck (a .0) (now (a .1 .0)) (now (a .1 .1 .0)) (now (a .1 .1 .1 .0)) ≡ Done
-    → SameFacts (now (a .1 .0)) (now (e .1 .1 .1 .1 .0)) (now (e .1 .1 .1 .1 .1 .0)) (now (e .1 .1 .1 .1 .1 .1 .0))
-    (now (e′ .1 .1 .1 .1 .0)) (now (e′ .1 .1 .1 .1 .1 .0)) (now (e′ .1 .1 .1 .1 .1 .1 .0))
+    (κs : Lfts 7) (a : _) (z z′ : Outcome) (e e′ : _) → check-call.Post κs a z e → check-call.Post κs a z′ e′
+    → callCheck (a .0) (now (a .1 .0)) (now (a .1 .1 .0)) (now (a .1 .1 .1 .0)) (now (a .1 .1 .1 .1 .0)) ≡ Done
+    → SameFacts (now (a .1 .0)) (now (e .1 .1 .1 .1 .1 .0)) (now (e .1 .1 .1 .1 .1 .1 .0)) (now (e .1 .1 .1 .1 .1 .1 .1 .0))
+    (now (e′ .1 .1 .1 .1 .1 .0)) (now (e′ .1 .1 .1 .1 .1 .1 .0)) (now (e′ .1 .1 .1 .1 .1 .1 .1 .0))
 check-call-facts-once κs a z z′ e e′ h h′ d = facts-once _ _ _ _ _ _ _ (h .facts (h .is ∙ d)) (h′ .facts (h′ .is ∙ d))

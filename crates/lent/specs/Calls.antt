@@ -35,8 +35,8 @@ pub record Tabled (t counts : List ℕ) : Type 0 where
   pub counted : (q : ℕ) → q < planCount t → byteAt counts q ≡ length (children t q)
 
 -- a call by a rule has been checked, with this outcome; where it passes the table's facts are known
-pub record Called (rule : ℕ) (t s w ranks counts names : List ℕ) (outcome : Outcome) : Type 0 where
-  pub is : outcome ≡ callCheck rule t s w
+pub record Called (rule : ℕ) (t s w c ranks counts names : List ℕ) (outcome : Outcome) : Type 0 where
+  pub is : outcome ≡ callCheck rule t s w c
   pub facts : outcome ≡ Done → Facts t ranks counts names
 
 -- a table, its facts, states that pass and words of the right length: the plans may move

@@ -31,12 +31,13 @@ pub fn check_call(
     table: &[u8],
     states: &[u8],
     words: &[u8],
+    causes: &[u8],
     ranks: &mut [u8],
     counts: &mut [u8],
     names: &mut [u64],
 ) -> Outcome
     requires { ⌜ FactsRoom (now table) (now ranks) (now counts) (now names) ⌝ }
-    ensures { λ r. ⌜ Called rule (now (table .entry)) (now (states .entry)) (now (words .entry))
+    ensures { λ r. ⌜ Called rule (now (table .entry)) (now (states .entry)) (now (words .entry)) (now (causes .entry))
         (now (ranks .exit)) (now (counts .exit)) (now (names .exit)) r ⌝ }
 {
     if !is_rule(rule) {
@@ -44,7 +45,7 @@ pub fn check_call(
     }
     match read_table(table, ranks, counts, names) {
         Outcome::Refused(why) => Outcome::Refused(why),
-        Outcome::Done => check_lent(table, counts, states, words),
+        Outcome::Done => check_lent(table, counts, states, words, causes),
     }
 }
 
@@ -83,12 +84,12 @@ pub fn unused_bits(body: Body) -> u32
 }
 
 // Checks 10 to 12 of a call whose table passes.
-fn check_lent(table: &[u8], counts: &[u8], states: &[u8], words: &[u8]) -> Outcome
+fn check_lent(table: &[u8], counts: &[u8], states: &[u8], words: &[u8], causes: &[u8]) -> Outcome
     requires { ⌜ Tabled (now table) (now counts) ⌝ }
-    ensures { λ r. ⌜ r ≡ lentCheck (now (table .entry)) (now (states .entry)) (now (words .entry)) ⌝ }
+    ensures { λ r. ⌜ r ≡ lentCheck (now (table .entry)) (now (states .entry)) (now (words .entry)) (now (causes .entry)) ⌝ }
 {
     let n = u16_at(table, 5) as usize;
-    if (states.len() != n) | (words.len() != 4 * n) {
+    if (states.len() != n) | (words.len() != 4 * n) | (causes.len() != n) {
         return Outcome::Refused(Refusal::Lengths);
     }
     let state = lowest_bad_state(table, n, states);

@@ -11,7 +11,8 @@ use Rattle.rules.specs.Bytes.{byteAt}
 use Rattle.rules.specs.States.{code, stateOf, stateAt, is, inSelection, ended}
 use Rattle.rules.specs.Table.{planCount, parent, entry}
 use Rattle.rules.specs.Words.{word}
-use Rattle.rules.specs.Step.{move, tooManyLost, childrenComplete, moveOf, newState}
+use Rattle.rules.specs.Step.{moveBy, theState, move, tooManyLost, childrenComplete, movedBy, newBy, newState}
+use Rattle.rules.specs.declared.Cause.{Cause}
 use Rattle.rules.specs.declared.PlanEntry.{PlanEntry}
 use Rattle.rules.specs.declared.Orders.{Orders}
 use Rattle.rules.specs.declared.PlanState.{PlanState}
@@ -40,20 +41,20 @@ parent-of-child t states q zero h e = absurd (omega arith)
 parent-of-child t states q (suc p) h e = rw e (sym (state-is states (parent t (suc p))))
 
 module _ (t s w : List ℕ) (choice : ℕ → ℕ) where
-  -- the new state of a plan, the root's as of a child
-  new-state :
-      (rule : ℕ) (new : List ℕ) (p : ℕ)
-      → newState rule t s w choice new p
-      ≡ moveOf rule t s w choice (parentState t new p) (ordersAt t s w choice (parentState t new p) p) p
-  new-state rule new zero = refl
-  new-state rule new (suc p) = refl
+  -- the new state of a plan and its cause, the root's as of a child
+  pub new-by :
+      {A : Type 0} (to : PlanState → Cause → A) (rule : ℕ) (new : List ℕ) (p : ℕ)
+      → newBy rule t s w choice to new p
+      ≡ movedBy rule t s w choice to (parentState t new p) (ordersAt t s w choice (parentState t new p) p) p
+  new-by to rule new zero = refl
+  new-by to rule new (suc p) = refl
 
   -- and as a move, from what the code has in hand
   pub as-move :
       (rule : ℕ) (new : List ℕ) (p : ℕ) (up old : PlanState) → up ≡ parentState t new p → old ≡ stateAt s p
       → newState rule t s w choice new p
       ≡ move up (ordersAt t s w choice up p) (entry t p) (word w p) (tooManyLost t s rule p) (childrenComplete t s p) old
-  as-move rule new p up old eu eo = rw (eu, eo) (new-state rule new p)
+  as-move rule new p up old eu eo = rw (eu, eo) (new-by theState rule new p)
 
 -- under a parent in execution a Completed or Rejected plan stays
 abbrev overKeys : List ℕ
@@ -63,7 +64,7 @@ module _
     (up : PlanState) (o : Orders) (e : PlanEntry) (x : ℕ) (lost complete : Bool)
     (begun : (is Inactive up || inSelection up) ≡ false) (goes-on : ended up ≡ false) where
   pub over-stays : (old : PlanState) → OneOf overKeys (tagOf declared.the-type old) → move up o e x lost complete old ≡ old
-  unfolding move
+  unfolding moveBy
   over-stays Inactive h = absurd (miss overKeys 0 tt h)
   over-stays Considered h = absurd (miss overKeys 1 tt h)
   over-stays Possible h = absurd (miss overKeys 2 tt h)

@@ -1,4 +1,4 @@
--- What is known before one plan moves. Assumes nothing.
+-- What is known before one plan moves, and before it is told why it did. Assumes nothing.
 use Prim.Native.Nat.{ℕ, _+_, _*_, _≤_, _<_}
 use mathlib.Core.List.{List}
 use lib.ListN.{length}
@@ -17,4 +17,11 @@ pub record MoveFacts (t : List ℕ) (n : ℕ) (s ranks names sets picks w new : 
   pub within : p < planCount t
   pub own : OwnBytes t w p
   pub children : OwnChildren t n names sets p
+  pub parent-room : 0 < p → parent t p < length new
+
+-- all that is read to tell why plan p moved from the states s to `new`
+pub record CauseFacts (t s w new : List ℕ) (p : ℕ) : Type 0 where
+  pub own : OwnBytes t w p
+  pub old-room : p < length s
+  pub new-room : p < length new
   pub parent-room : 0 < p → parent t p < length new

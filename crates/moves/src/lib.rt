@@ -11,13 +11,15 @@ ghost use Rattle.rules.specs.Step.{newState};
 ghost use Rattle.rules.specs.Step.{chosen as Step·chosen};
 ghost use Rattle.family.specs.StepFacts.{picksOf};
 ghost use Rattle.moves.specs.Parents.{parentState};
-ghost use Rattle.moves.specs.MoveFacts.{OwnBytes, MoveFacts};
+ghost use Rattle.moves.specs.Causes.{causeOfMove, causeTold};
+ghost use Rattle.moves.specs.MoveFacts.{OwnBytes, MoveFacts, CauseFacts};
 use family::may_complete;
 use family::orders;
 use family::too_many_lost;
 use reading::entry_at;
 use reading::parent_at;
 use reading::word_at;
+use rules::Cause;
 use rules::Condition;
 use rules::PlanState;
 
@@ -141,6 +143,45 @@ pub fn next_state(
             }
         }
     }
+}
+
+// Why plan p went from its old state to its new one (document 02 (ix)), where a step gave it that. The definition says the cause on the
+// line of the list that fits; the line can be told afterwards, from the parent's new state, the two states and the plan's own abort. So
+// whoever wants no causes, as the checker, does not pay for them (docs/BENCHMARKS.md).
+pub fn cause(table: &[u8], old: &[u8], words: &[u8], new: &[u8], p: usize) -> Cause
+    requires { ⌜ CauseFacts (now table) (now old) (now words) (now new) p ⌝ }
+    ensures { λ r. ⌜ r ≡ causeTold (now (table .entry)) (now (old .entry)) (now (words .entry)) (now (new .entry)) p ⌝ }
+{
+    let was = PlanState::from_byte(old[p]);
+    let state = PlanState::from_byte(new[p]);
+    // most plans stay: nothing more is read of them
+    if state.is(was) {
+        return Cause::Unmoved;
+    }
+    cause_of_move(
+        parent_state(table, new, p),
+        holds(Condition::Abort, table, words, p),
+        was,
+        state,
+    )
+}
+
+// Why a plan went from one state to another: by the parent's new state, and whether the plan's own abort holds.
+fn cause_of_move(parent: PlanState, aborts: bool, was: PlanState, state: PlanState) -> Cause
+    ensures { λ r. ⌜ r ≡ causeOfMove parent aborts was state ⌝ }
+{
+    // under a parent that is not in execution a plan is reset, Rejected or Aborted; under a Suspended one it is suspended
+    if !parent.in_execution() | (parent.is(PlanState::Suspended) & state.is(PlanState::Suspended)) {
+        return Cause::Forced;
+    }
+    // considered, for the first time or again; and what was Ready is activated
+    if state.is(PlanState::Considered) | was.is(PlanState::Ready) {
+        return Cause::Ordered;
+    }
+    if state.is(PlanState::Aborted) & !aborts {
+        return Cause::ChildrenLost;
+    }
+    Cause::OwnCondition
 }
 
 // The state of plan p's parent, here its new one. The root moves as if it had a parent that was and stays Activated.

@@ -23,6 +23,7 @@ use Rattle.demands.proofs.TwoChildren.{two-children}
 use Rattle.family.specs.ChildWords.{ChildWords}
 use Rattle.formulas.proofs.Formed.{plans-within, waiting}
 use Rattle.family.specs.StepFacts.{picksOf, StepFacts, Names}
+use Rattle.moves.specs.MoveFacts.{CauseFacts}
 use Rattle.lent.specs.Calls.{MayMove}
 use Rattle.lent.proofs.Calls.{rooted}
 use Rattle.pass.specs.Taken.{Taken}
@@ -109,6 +110,20 @@ module _ (t s w ranks names : List ℕ) (moves : MayMove t s w ranks names) (n :
           children = child-words;
           picks-small = λ q l. small q (omega arith);
         }
+
+  -- once their new states are worked out, it may be told why they move, and they may be moved
+  pub may-tell : (new : List ℕ) → n ≤ length new → (p : ℕ) → p < n → CauseFacts t s w new p
+  may-tell new room p l =
+      record {
+        own = record { entry-room = omega (arith, plans-within t (passed .long)); word-room = omega (arith, moves .words) };
+        old-room = omega (arith, state-room);
+        new-room = omega arith;
+        parent-room = λ h. omega (arith, shape .down p h (omega arith));
+      }
+
+  pub may-take :
+      (new : List ℕ) (m : ℕ) → n ≤ length new → m ≡ n → ((p : ℕ) → p < m → CauseFacts t s w new p) × (length s ≤ length new)
+  may-take new m room e = (λ p l. may-tell new room p (omega arith), omega (arith, moves .passes .long))
 
   -- picks that are taken from the words
   module _ (picks : List ℕ) (taken : Taken w n picks) where

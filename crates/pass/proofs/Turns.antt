@@ -13,15 +13,19 @@ use Rattle.rules.specs.declared.PlanState.{PlanState}
 use Rattle.rules.proofs.Codes.{state-is}
 use Rattle.children.specs.Sets.{Beyond}
 
+-- the states of the first k plans
+pub part-state : (k : ℕ) (new : List ℕ) (p : ℕ) → p < k → stateAt (take k new) p ≡ stateAt new p
+part-state k new p l = state-is (take k new) p ∙ ap stateOf (getD-take k new p 0 l) ∙ sym (state-is new p)
+
 module _ (rule : ℕ) (t s w : List ℕ) (choice : ℕ → ℕ) where
   -- of the new states only the parent's is read
-  prefix-state :
+  pub prefix-state :
       (new : List ℕ) (p : ℕ) → (0 < p → parent t p < p) → newState rule t s w choice (take p new) p ≡ newState rule t s w choice new p
   prefix-state new zero down = refl
   prefix-state new (suc k) down =
       let q : ℕ = parent t (suc k) in
       ap (λ (x : PlanState). moveOf rule t s w choice x (ordersIf t s w choice (stateAt s q) x q (suc k)) (suc k))
-      (state-is (take (suc k) new) q ∙ ap stateOf (getD-take (suc k) new q 0 (down (omega arith))) ∙ sym (state-is new q))
+      (part-state (suc k) new q (down (omega arith)))
 
   pub none-moved : (new : List ℕ) → take 0 new ≡ stepFirst rule t s w choice 0
   unfolding stepFirst

@@ -1,7 +1,7 @@
 -- One answer: any two lists of new states that the contract of `advance` permits are one, and so are the picks that `take_picks` leaves,
--- the states that `take_over` leaves, and what `unchanged` answers. The contract is taken as Rattle reads it: `Post κs a z e`, of the
--- lifetimes, the arguments, the answer and the parameters at exit, arguments and parameters in the order of the declaration. Assumes
--- nothing.
+-- the causes that `tell_causes` leaves, the states that `take_over` leaves, and what `unchanged` answers. The contract is taken as Rattle
+-- reads it: `Post κs a z e`, of the lifetimes, the arguments, the answer and the parameters at exit, arguments and parameters in the order
+-- of the declaration. Assumes nothing.
 use Prim.Native.Nat.{ℕ}
 use mathlib.Core.Path.{_≡_, sym, ap, _∙_}
 use mathlib.Core.List.{List}
@@ -14,6 +14,7 @@ use Rattle.children.proofs.Unique.{written-once}
 use Rattle.pass.proofs.advance.Reads as advance
 use Rattle.pass.proofs.take_picks.Reads as take-picks
 use Rattle.pass.proofs.take_over.Reads as take-over
+use Rattle.pass.proofs.tell_causes.Reads as tell-causes
 use Rattle.pass.proofs.unchanged.Reads as unchanged
 
 pub unchanged-once : OneAnswer unchanged.Post
@@ -23,6 +24,11 @@ pub take-over-once :
     (κs : Lfts 2) (a : _) (z z′ : _) (e e′ : _) → take-over.Post κs a z e → take-over.Post κs a z′ e′
     → now (e .1 .0) ≡ now (e′ .1 .0)
 take-over-once κs a z z′ e e′ h h′ = one-answer h h′
+
+pub tell-causes-once :
+    (κs : Lfts 5) (a : _) (z z′ : _) (e e′ : _) → tell-causes.Post κs a z e → tell-causes.Post κs a z′ e′
+    → now (e .1 .1 .1 .1 .0) ≡ now (e′ .1 .1 .1 .1 .0)
+tell-causes-once κs a z z′ e e′ h h′ = one-answer h h′
 
 pub take-picks-once :
     (κs : Lfts 2) (a : _) (z z′ : _) (e e′ : _) → take-picks.Post κs a z e → take-picks.Post κs a z′ e′

@@ -1,15 +1,18 @@
-// One pass over all plans of a step, and what stands around it: the picks of the words before it, the new states beside the old ones after
-// it. The step, the run and the checker all go through it. Each function costs O(n) for n plans; nothing is allocated. Assumes a table
-// that passes, its facts, and the words of the old states (`StepFacts`).
+// One pass over all plans of a step, and what stands around it: the picks of the words before it, the new states beside the old ones and
+// the causes after it. The step, the run and the checker all go through it; the checker asks for no causes. Each function costs O(n) for n
+// plans; nothing is allocated. Assumes a table that passes, its facts, and the words of the old states (`StepFacts`).
 ghost use mathlib.Core.Path.{_≡_};
-ghost use Prim.Native.Nat.{_*_, _≤_};
+ghost use Prim.Native.Nat.{ℕ, _*_, _≤_, _<_};
 ghost use lib.ListN.{length, take};
 ghost use Rattle.rules.specs.Lists.{same};
 ghost use Rattle.rules.specs.Table.{planCount};
 ghost use Rattle.rules.specs.Step.{stepUnder};
 ghost use Rattle.children.specs.Sets.{Beyond};
 ghost use Rattle.family.specs.StepFacts.{picksOf, StepFacts, Names};
+ghost use Rattle.moves.specs.Causes.{causesTold};
+ghost use Rattle.moves.specs.MoveFacts.{CauseFacts};
 ghost use Rattle.pass.specs.Taken.{Taken};
+use moves::cause;
 use moves::next_state;
 use reading::word_at;
 use rules::pick_of;
@@ -60,6 +63,18 @@ pub fn take_picks(words: &[u8], n: usize, picks: &mut [u8])
 {
     for p in 0..n {
         picks[p] = pick_of(word_at(words, p)) as u8;
+    }
+}
+
+// Tells why each plan went from its old state to its new one.
+pub fn tell_causes(table: &[u8], old: &[u8], words: &[u8], new: &[u8], causes: &mut [u8])
+    requires { ⌜ ((p : ℕ) → p < length (now causes) → CauseFacts (now table) (now old) (now words) (now new) p) ⌝ }
+    ensures { λ _. ⌜ now (causes .exit) ≡ causesTold (now (table .entry)) (now (old .entry)) (now (words .entry)) (now (new .entry))
+        (length (now (causes .entry))) ⌝ }
+{
+    let n = causes.len();
+    for p in 0..n {
+        causes[p] = cause(table, old, words, new, p).to_byte();
     }
 }
 

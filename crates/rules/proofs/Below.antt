@@ -1,10 +1,14 @@
--- Laws of `someBelow`: a search through all numbers below n finds something if and only if there is something. Assumes nothing.
+-- Laws of `someBelow`: a search through all numbers below n finds something if and only if there is something; and of `mapBelow`: its
+-- values. Assumes nothing.
 use Prim.Native.Nat.{ℕ, zero, suc, _<_}
 use native.Mathlib.Decide.{ℕ-discrete}
 use native.Mathlib.Omega.{arith}
 use mathlib.Core.Path.{_≡_, refl, sym, ap, _∙_}
 use mathlib.Core.Bool.{Bool, true, false, _||_, or-true, true≢false}
-use Rattle.rules.specs.Lists.{someBelow}
+use mathlib.Core.List.{[], _∷_, _++_}
+use lib.ListN.{getD, length, length-append, List·getD-append}
+use lib.Seq.{getD-at}
+use Rattle.rules.specs.Lists.{someBelow, mapBelow}
 
 module _ (f : ℕ → Bool) where
   pub none-below : (n : ℕ) → ((k : ℕ) → k < n → f k ≡ false) → someBelow f n ≡ false
@@ -46,3 +50,24 @@ some-either f g (suc n) = ap (λ (b : Bool). b || (f n || g n)) (some-either f g
     swap false true false d = refl
     swap false false true d = refl
     swap false false false d = refl
+
+pub length-map-below : (f : ℕ → ℕ) (n : ℕ) → length (mapBelow f n) ≡ n
+unfolding mapBelow
+length-map-below f zero = refl
+length-map-below f (suc n) = let h = length-map-below f n in simp length-append (omega arith)
+
+pub at-map-below : (f : ℕ → ℕ) (n k : ℕ) → k < n → getD (mapBelow f n) k 0 ≡ f k
+unfolding mapBelow
+at-map-below f zero k l = absurd (omega arith)
+at-map-below f (suc n) k l = go (ℕ-discrete k n) (at-map-below f n k)
+  where
+    go : Dec (k ≡ n) → (k < n → getD (mapBelow f n) k 0 ≡ f k) → getD (mapBelow f n ++ (f n ∷ [])) k 0 ≡ f k
+    go (yes e) before = rw e (getD-at (mapBelow f n) (f n) [] 0 n (length-map-below f n))
+    go (no e) before =
+        let h : k < n = omega arith in
+        List·getD-append (mapBelow f n) (f n ∷ []) 0 k (rw (length-map-below f n) h) ∙ before h
+
+pub same-map-below : (f g : ℕ → ℕ) (n : ℕ) → ((k : ℕ) → k < n → f k ≡ g k) → mapBelow f n ≡ mapBelow g n
+unfolding mapBelow
+same-map-below f g zero each = refl
+same-map-below f g (suc n) each = rw (same-map-below f g n (λ k l. each k (omega arith)), each n (omega arith))

@@ -9,6 +9,7 @@ use Rattle.rules.proofs.PlanState.in_selection.Reads as in-selection
 use Rattle.rules.proofs.PlanState.in_execution.Reads as in-execution
 use Rattle.rules.proofs.PlanState.is_ended.Reads as is-ended
 use Rattle.rules.proofs.PlanState.has_run.Reads as has-run
+use Rattle.rules.proofs.Cause.to_byte.Reads as cause-to-byte
 use Rattle.rules.proofs.Body.is.Reads as is-body
 use Rattle.rules.proofs.Body.is_of_two.Reads as is-of-two
 use Rattle.rules.proofs.Condition.bit.Reads as bit
@@ -39,11 +40,11 @@ pub by-equation :
     {K A Z E : Type 0} {definition : K → A → Z} → OneAnswer (λ (κs : K) (a : A) (z : Z) (e : E). z ≡ definition κs a)
 by-equation = record { once = λ κs a z z′ e e′ h h′. one-answer h h′ }
 
--- the functions of a plan's state
+-- the functions of a plan's state, and that of a cause
 pub states-once :
     OneAnswer to-byte.Post × OneAnswer from-byte.Post × OneAnswer is-it.Post × OneAnswer in-selection.Post
-    × OneAnswer in-execution.Post × OneAnswer is-ended.Post × OneAnswer has-run.Post
-states-once = (by-equation, by-equation, by-equation, by-equation, by-equation, by-equation, by-equation)
+    × OneAnswer in-execution.Post × OneAnswer is-ended.Post × OneAnswer has-run.Post × OneAnswer cause-to-byte.Post
+states-once = (by-equation, by-equation, by-equation, by-equation, by-equation, by-equation, by-equation, by-equation)
 
 -- those of a body, a condition, a bit and an input word
 pub bodies-once :
@@ -76,3 +77,8 @@ rule-once = by-equation
 abbrev pub OneAnswerLeaving : {K A Z E L : Type 0} → (K → A → Z → E → Type 0) → (E → L) → Type 0
 OneAnswerLeaving Post left =
     (κs : _) (a : _) (z z′ : _) (e e′ : _) → Post κs a z e → Post κs a z′ e′ → (z ≡ z′) × (left e ≡ left e′)
+
+-- and of one that is lent two buffers to write
+abbrev pub OneAnswerLeavingTwo : {K A Z E L : Type 0} → (K → A → Z → E → Type 0) → (E → L) → (E → L) → Type 0
+OneAnswerLeavingTwo Post left told =
+    (κs : _) (a : _) (z z′ : _) (e e′ : _) → Post κs a z e → Post κs a z′ e′ → (z ≡ z′) × (left e ≡ left e′) × (told e ≡ told e′)

@@ -1,6 +1,6 @@
--- Document 01, 'Answer numbers', as document 02 (i), (ii) and (v) widen them: the number and place of each refusal, those of (iii) and
--- (vi) among them, and, of documents 01 and 02 (i), (ii), (v), the test behind each, their order in each call, and what each call answers
--- and leaves. Assumes nothing.
+-- Document 01, 'Answer numbers', as document 02 (i), (ii), (v) and (ix) widen them: the number and place of each refusal, those of (iii)
+-- and (vi) among them, and, of documents 01 and 02 (i), (ii), (v), (ix), the test behind each, their order in each call, and what each call
+-- answers and leaves. Assumes nothing.
 use Prim.Native.Nat.{ℕ, zero, suc, _*_, _-_, _%_, _^_, _<_}
 use mathlib.Core.Bool.{Bool, true, false, cond, not, _&&_, _||_, Bool·beq}
 use mathlib.Core.Path.{_≡_}
@@ -28,9 +28,9 @@ use Rattle.rules.specs.Table.{
 }
 use Rattle.rules.specs.WaitFor.{firstVersion, nodeCount, node, asks, operands, tableSize, isLeaf, uses, owner}
 use Rattle.rules.specs.Words.{word, pickOf, pickAllowed, otherBits, contradicts}
-use Rattle.rules.specs.Step.{chosen, step}
+use Rattle.rules.specs.Step.{chosen, step, causes}
 use Rattle.rules.specs.HandedIn.{badState}
-use Rattle.rules.specs.Rest.{leastRest, statesAt}
+use Rattle.rules.specs.Rest.{after, leastRest, stepsTaken, lastCauses}
 use Rattle.rules.specs.Record.{Choosing, stepSize, stepCount, wordsOf, ExplainedFirstBy}
 use Rattle.rules.specs.declared.Body.{Body}
 use Rattle.rules.specs.declared.Body.the-variants.{Leaf}
@@ -286,11 +286,16 @@ module _ (t : List ℕ) where
   abbrev pub callWordsCheck : List ℕ → Outcome
   callWordsCheck w = refuseAt (Word 0) (least (badWord w) (planCount t))
 
+  -- 10: the states, the words or the causes have another length
+  abbrev pub wrongLengths : List ℕ → List ℕ → List ℕ → Bool
+  wrongLengths s w c =
+      not (eqb (length s) (planCount t)) || not (eqb (length w) (4 * planCount t)) || not (eqb (length c) (planCount t))
+
   -- 10 to 12
-  unfoldable pub lentCheck : List ℕ → List ℕ → Outcome
+  unfoldable pub lentCheck : List ℕ → List ℕ → List ℕ → Outcome
   unfolding badState badWord
-  lentCheck s w =
-      refuseIf (not (eqb (length s) (planCount t)) || not (eqb (length w) (4 * planCount t))) Lengths
+  lentCheck s w c =
+      refuseIf (wrongLengths s w c) Lengths
       andThen refuseAt State (least (badState t s) (planCount t))
       andThen callWordsCheck w
 
@@ -299,27 +304,34 @@ abbrev pub restAnswer : Found → Rest
 restAnswer (At k) = rest.Rested k
 restAnswer Nowhere = rest.Moving
 
--- A call of the step or the run by a rule: 17, then the table's, then 10 to 12.
-module _ (rule : ℕ) (t : List ℕ) where
-  unfoldable pub callCheck : List ℕ → List ℕ → Outcome
+-- A call of the step or the run by a rule: 17, then the table's, then 10 to 12. It is lent states s, words w and a buffer c for causes.
+module _ (rule : ℕ) (t s w c : List ℕ) where
+  unfoldable pub callCheck : Outcome
   unfolding ruleCheck tableCheck lentCheck
-  callCheck s w = ruleCheck rule andThen tableCheck t andThen lentCheck t s w
+  callCheck = ruleCheck rule andThen tableCheck t andThen lentCheck t s w c
 
-  -- what the step answers, and the states that it leaves: no refusal changes lent bytes
-  abbrev pub stepAnswer : List ℕ → List ℕ → Outcome
-  stepAnswer s w = callCheck s w
+  -- what the step answers, and the states and causes that it leaves: no refusal changes lent bytes
+  abbrev pub stepAnswer : Outcome
+  stepAnswer = callCheck
 
-  abbrev pub stepStates : List ℕ → List ℕ → List ℕ
-  stepStates s w = elim (callCheck s w) [ Done ↦ step rule t s w | Refused why ↦ s ]
+  abbrev pub stepStates : List ℕ
+  stepStates = elim callCheck [ Done ↦ step rule t s w | Refused why ↦ s ]
 
-  -- what the run answers, and the states that it leaves
-  unfoldable pub runAnswer : List ℕ → List ℕ → ℕ → Rest
+  abbrev pub stepCauses : List ℕ
+  stepCauses = elim callCheck [ Done ↦ causes rule t s w | Refused why ↦ c ]
+
+  -- what the run answers, and the states and causes that it leaves
+  unfoldable pub runAnswer : ℕ → Rest
   unfolding callCheck leastRest
-  runAnswer s w budget = elim (callCheck s w) [ Done ↦ restAnswer (leastRest rule t s w budget) | Refused why ↦ rest.Refused why ]
+  runAnswer budget = elim callCheck [ Done ↦ restAnswer (leastRest rule t s w budget) | Refused why ↦ rest.Refused why ]
 
-  unfoldable pub runStates : List ℕ → List ℕ → ℕ → List ℕ
-  unfolding callCheck leastRest
-  runStates s w budget = elim (callCheck s w) [ Done ↦ statesAt rule t s w budget (leastRest rule t s w budget) | Refused why ↦ s ]
+  unfoldable pub runStates : ℕ → List ℕ
+  unfolding callCheck leastRest after
+  runStates budget = elim callCheck [ Done ↦ after rule t s w (stepsTaken rule t s w budget) | Refused why ↦ s ]
+
+  unfoldable pub runCauses : ℕ → List ℕ
+  unfolding callCheck leastRest lastCauses
+  runCauses budget = elim callCheck [ Done ↦ lastCauses rule t s w (stepsTaken rule t s w budget) | Refused why ↦ c ]
 
 -- The checker's own checks.
 module _ (t r : List ℕ) where

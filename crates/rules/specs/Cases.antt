@@ -1,6 +1,6 @@
 -- Document 01, 'Small protocols to try': the lines marked P, in their order, then some that are not, then rows of our own, with those of
--- document 02 (i) to (iii), (v) and (vii) among them; one table, and one theorem that all its rows hold. A row of a step or a run goes
--- through the whole call, checks 17, 1 to 12 and 22 included, by each rule that its first column names. Assumes nothing.
+-- document 02 (i) to (iii), (v), (vii) and (ix) among them; one table, and one theorem that all its rows hold. A row of a step or a run
+-- goes through the whole call, checks 17, 1 to 12 and 22 included, by each rule that its first column names. Assumes nothing.
 use Prim.Native.Nat.{ℕ, zero, suc, _+_, _-_, _*_, _/_, _%_, _^_}
 use Prim.Native.String.{String}
 use mathlib.Core.Bool.{Bool, true, false, cond, _&&_}
@@ -8,14 +8,14 @@ use mathlib.Core.Path.{_≡_, refl}
 use mathlib.Core.List.{List, [], _∷_, _++_, map}
 use lib.ListN.{take, drop, replicate}
 use lib.Dec.{eqb}
-use Rattle.rules.specs.Lists.{all, same, leastFrom, someBelow, highest}
+use Rattle.rules.specs.Lists.{all, same, leastFrom, someBelow, mapBelow, highest}
 use Rattle.rules.specs.Bytes.{isSet, text}
 use Rattle.rules.specs.States.{stateAt}
 use Rattle.rules.specs.Table.{planCount, childrenBefore, children, rank, isOrIsAbove}
 use Rattle.rules.specs.WaitFor.{formulaHolds, waitFor, firstNodes, askedNodes, uses, ownerWithin, owner}
 use Rattle.rules.specs.Words.{holds, satisfiable, withPattern}
 use Rattle.rules.specs.Step.{
-  move,
+  moveBy,
   tooManyLost,
   allEnded,
   childrenComplete,
@@ -31,9 +31,11 @@ use Rattle.rules.specs.Step.{
   stepBy,
   stepUnder,
   step,
+  causesTo,
+  causes,
 }
 use Rattle.rules.specs.HandedIn.{badState}
-use Rattle.rules.specs.Rest.{after, leastRest}
+use Rattle.rules.specs.Rest.{after, leastRest, lastCauses}
 use Rattle.rules.specs.Answers.{
   place,
   isDone,
@@ -62,8 +64,10 @@ use Rattle.rules.specs.Answers.{
   callCheck,
   stepAnswer,
   stepStates,
+  stepCauses,
   runAnswer,
   runStates,
+  runCauses,
   formCheck,
   wordsCheck,
   recordCheck,
@@ -223,6 +227,10 @@ idle : List ℕ
 unfolding words
 idle = words 0 0 0
 
+-- what stands in the room for three causes before a call: none of them
+blank : List ℕ
+blank = 9 ∷ 9 ∷ 9 ∷ []
+
 -- The rules by which a row stands: its first column, where a rule has a say.
 abbrev both : List ℕ
 both = 1 ∷ 2 ∷ []
@@ -244,8 +252,14 @@ pub data Row : Type 0 where
   rowMoves : List ℕ → List ℕ → ℕ → ℕ → ℕ → Row
   -- a table accepted with so many plans
   rowAccepts : List ℕ → ℕ → Row
-  -- a step and a run refused, with the states left as they were: rules, table, states, words, number, plan
+  -- a step and a run refused, with states and causes left as they were: rules, table, states, words, number, plan
   rowRefuses : List ℕ → List ℕ → ℕ → List ℕ → ℕ → ℕ → Row
+  -- states, words and causes refused by 10 under a table, the causes left as they were
+  rowLengths : List ℕ → List ℕ → List ℕ → List ℕ → Row
+  -- document 02 (ix): one step that is done: rules, table, states, words, new states, causes
+  rowWhy : List ℕ → List ℕ → ℕ → List ℕ → ℕ → ℕ → Row
+  -- a run from the states under words and a budget: the states and the causes that it leaves, behind rules and table
+  rowLast : List ℕ → List ℕ → ℕ → List ℕ → ℕ → ℕ → ℕ → Row
   -- the part of the states that is a plan's sub tree
   rowShows : List ℕ → ℕ → ℕ → List ℕ → Row
   -- the program's line for a verdict on a table of so many plans
@@ -298,25 +312,38 @@ isTold number step plan Done = eqb number 0
 isTold number step plan (Refused why) = eqb (place why .number) number && eqb (place why .step) step && eqb (place why .plan) plan
 
 holdsIn : Row → Bool
-unfolding states manyStates bytes words idle isRested isMoving isAccepted isRefused isRefusedRun isTold
+unfolding states manyStates bytes words idle blank isRested isMoving isAccepted isRefused isRefusedRun isTold
 holdsIn (rowStep rules t from w to) =
-    all (λ rule. isDone (stepAnswer rule t (states from) w) && same (stepStates rule t (states from) w) (states to)) rules
+    all (λ rule. isDone (stepAnswer rule t (states from) w blank) && same (stepStates rule t (states from) w blank) (states to)) rules
 holdsIn (rowChooses t from q pick to) =
     let n : ℕ = planCount t in
     let s : List ℕ = manyStates n from in
     let w : List ℕ = replicate (4 * q) 0 ++ bytes (pick * 2 ^ 24) ++ replicate (4 * (n - 1 - q)) 0 in
-    all (λ rule. isDone (stepAnswer rule t s w) && same (stepStates rule t s w) (manyStates n to)) both
+    let c : List ℕ = replicate n 9 in
+    all (λ rule. isDone (stepAnswer rule t s w c) && same (stepStates rule t s w c) (manyStates n to)) both
 holdsIn (rowRests rules t from budget k to) =
-    all (λ rule.
-    isRested k (runAnswer rule t (states from) idle budget) && same (runStates rule t (states from) idle budget) (states to)) rules
+    let s : List ℕ = states from in
+    all (λ rule. isRested k (runAnswer rule t s idle blank budget) && same (runStates rule t s idle blank budget) (states to)) rules
 holdsIn (rowMoves rules t from budget to) =
-    all (λ rule.
-    isMoving (runAnswer rule t (states from) idle budget) && same (runStates rule t (states from) idle budget) (states to)) rules
+    let s : List ℕ = states from in
+    all (λ rule. isMoving (runAnswer rule t s idle blank budget) && same (runStates rule t s idle blank budget) (states to)) rules
 holdsIn (rowAccepts t n) = isAccepted n (tableVerdict t)
 holdsIn (rowRefuses rules t from w number plan) =
+    let s : List ℕ = states from in
     all (λ rule.
-    isRefused number plan (stepAnswer rule t (states from) w) && same (stepStates rule t (states from) w) (states from)
-    && isRefusedRun number plan (runAnswer rule t (states from) w 8) && same (runStates rule t (states from) w 8) (states from)) rules
+    isRefused number plan (stepAnswer rule t s w blank) && isRefusedRun number plan (runAnswer rule t s w blank 8)
+    && same (stepStates rule t s w blank ++ runStates rule t s w blank 8) (s ++ s)
+    && same (stepCauses rule t s w blank ++ runCauses rule t s w blank 8) (blank ++ blank)) rules
+holdsIn (rowLengths t s w c) =
+    all (λ rule. isRefused 10 0 (stepAnswer rule t s w c) && same (stepCauses rule t s w c) c) both
+holdsIn (rowWhy rules t from w to why) =
+    let s : List ℕ = states from in
+    all (λ rule.
+    isDone (stepAnswer rule t s w blank) && same (stepStates rule t s w blank) (states to)
+    && same (stepCauses rule t s w blank) (states why)) rules
+holdsIn (rowLast rules t from w budget to why) =
+    let s : List ℕ = states from in
+    all (λ rule. same (runStates rule t s w blank budget) (states to) && same (runCauses rule t s w blank budget) (states why)) rules
 holdsIn (rowShows t from p part) = same (subTree t (states from) p) part
 holdsIn (rowPrints n v told) = same (line n v) (text told)
 holdsIn (rowWaits t told) =
@@ -856,21 +883,76 @@ ourWords =
     ∷ rowPuts If false false (2 ^ 32 - 1) (2 ^ 32 - 1 - 2 ^ 20 - 2 ^ 21)
     ∷ []
 
+-- document 02 (ix): why plans moved
+ourCauses : List Row
+unfolding T1 T1With chain words idle
+ourCauses =
+    -- ordered, its own filter, its own setup, ordered; then its children likewise, of which it activates one; which completes; and it does
+    rowWhy both T1 000 idle 100 100
+    ∷ rowWhy both T1 100 idle 200 200
+    ∷ rowWhy both T1 200 idle 300 200
+    ∷ rowWhy both T1 300 idle 400 100
+    ∷ rowWhy both T1 400 idle 411 011
+    ∷ rowWhy both T1 411 idle 422 022
+    ∷ rowWhy both T1 422 idle 433 022
+    ∷ rowWhy both T1 433 idle 443 010
+    ∷ rowWhy both T1 443 (words 0 32 0) 463 020
+    ∷ rowWhy both T1 466 idle 666 200
+    -- Rejected by its own filter, and by its own setup
+    ∷ rowWhy both (T1With 0 0 2 33) 411 idle 482 022
+    ∷ rowWhy both (T1With 0 0 2 34) 422 idle 483 022
+    -- the root: too many children lost; its own abort; both, and its own abort is told; of a Suspended one the same; its children, where
+    -- they move, are forced
+    ∷ rowWhy both T1 473 idle 778 304
+    ∷ rowWhy both (T1With 0 16 2 32) 443 (words 16 0 0) 778 244
+    ∷ rowWhy both (T1With 0 16 2 32) 473 (words 16 0 0) 778 204
+    ∷ rowWhy both (T1With 0 16 2 32) 400 (words 16 0 0) 700 200
+    ∷ rowWhy both (T1With 0 20 2 32) 573 idle 778 304
+    ∷ rowWhy both (T1With 0 20 2 32) 553 (words 16 0 0) 778 244
+    ∷ rowWhy both (T1With 0 20 2 32) 573 (words 16 0 0) 778 204
+    -- own abort under a parent that ends in the same step: forced
+    ∷ rowWhy both (T1With 0 16 2 48) 443 (words 16 16 0) 778 244
+    -- the root's own suspension forces its child's, also where the child's own suspend holds; and that alone
+    ∷ rowWhy both (T1With 0 4 2 32) 443 (words 4 0 0) 553 240
+    ∷ rowWhy both (T1With 0 4 2 36) 443 (words 4 4 0) 553 240
+    ∷ rowWhy both (T1With 0 4 2 36) 443 (words 0 4 0) 453 020
+    -- reactivated, both by their own condition
+    ∷ rowWhy both (T1With 0 4 2 32) 553 idle 443 220
+    -- retried: ordered; what stood under it is reset, if it was not Inactive before
+    ∷ rowWhy both (T1With 1 0 1 32) 473 idle 413 010
+    ∷ rowWhy both chain 477 idle 410 014
+    ∷ rowWhy both chain 476 idle 410 014
+    ∷ rowWhy both chain 478 idle 410 014
+    ∷ rowWhy both chain 470 idle 410 010
+    -- a run leaves its last step's causes, rested or not, and not those of the step that it only tried; all 0 if it took none
+    ∷ rowLast both T1 000 idle 8 443 010
+    ∷ rowLast both T1 000 idle 7 433 022
+    ∷ rowLast both T1 443 idle 8 443 000
+    ∷ rowLast both T1 000 idle 0 000 000
+    -- 10: room for too few causes, for too many, for none; before 11 and 12. Of states and words alone
+    ∷ rowLengths T1 (states 000) idle (9 ∷ 9 ∷ [])
+    ∷ rowLengths T1 (states 000) idle (9 ∷ 9 ∷ 9 ∷ 9 ∷ [])
+    ∷ rowLengths T1 (states 000) idle []
+    ∷ rowLengths T1 (states 444) (words 0 1 0) (9 ∷ 9 ∷ [])
+    ∷ rowLengths T1 (9 ∷ states 000) idle (9 ∷ 9 ∷ 9 ∷ [])
+    ∷ rowLengths T1 (states 000) (0 ∷ idle) (9 ∷ 9 ∷ 9 ∷ [])
+    ∷ []
+
 pub table : List Row
 unfolding
     marked unmarked ourMoves badTurns badTurnsRefused retries choices ourRefusals ourShows ourFormulas ourWaits badFormulas ourEnds
-    ourRecords ourWords
+    ourRecords ourWords ourCauses
 table =
     marked ++ unmarked ++ ourMoves ++ badTurns ++ badTurnsRefused ++ retries ++ choices ++ ourRefusals ++ ourShows ++ ourFormulas
-    ++ ourWaits ++ badFormulas ++ ourEnds ++ ourRecords ++ ourWords
+    ++ ourWaits ++ badFormulas ++ ourEnds ++ ourRecords ++ ourWords ++ ourCauses
 
 pub rowsHold : allHold table ≡ true
 unfolding
     allHold table T1Of states leaves leastFrom someBelow highest stateAt childrenBefore children rank isOrIsAbove formulaHolds
     waitFor firstNodes askedNodes uses ownerWithin owner holds satisfiable
-    move tooManyLost allEnded childrenComplete firstNotDone gateOpen mayActivate fallback readyOr chosen due orders
-    stepFirst stepBy stepUnder step badState after leastRest badParent undefinedEntry unfitEntry undefinedByte unfit tooMany
-    strayFirst badBytes badNode badRank formulasCheck asksTooMany badWait _andThen_ refuseIf refuseAt headerCheck ruleCheck tableCheck
-    badWord badRecordWord callCheck tableVerdict runAnswer runStates formCheck wordsCheck recordCheck lastDescendant subTree decimalTo
-    tableLength
+    moveBy tooManyLost allEnded childrenComplete firstNotDone gateOpen mayActivate fallback readyOr chosen due orders
+    stepFirst stepBy stepUnder step mapBelow causesTo causes badState after leastRest lastCauses badParent undefinedEntry unfitEntry
+    undefinedByte unfit tooMany strayFirst badBytes badNode badRank formulasCheck asksTooMany badWait _andThen_ refuseIf refuseAt
+    headerCheck ruleCheck tableCheck badWord badRecordWord callCheck tableVerdict runAnswer runStates runCauses formCheck wordsCheck
+    recordCheck lastDescendant subTree decimalTo tableLength
 rowsHold = refl

@@ -1,7 +1,7 @@
 -- The few general notions that the definitions use: tests over a list of numbers, and the least number that passes a test. Assumes nothing.
 use Prim.Native.Nat.{ℕ, zero, suc, _+_}
 use mathlib.Core.Bool.{Bool, true, false, cond, _&&_, _||_}
-use mathlib.Core.List.{List, [], _∷_}
+use mathlib.Core.List.{List, [], _∷_, _++_}
 use lib.Dec.{eqb}
 
 -- all numbers of a list pass a test
@@ -53,6 +53,11 @@ least f n = leastFrom f 0 n
 unfoldable pub someBelow : (ℕ → Bool) → ℕ → Bool
 someBelow f zero = false
 someBelow f (suc k) = someBelow f k || f k
+
+-- what a function gives for each number below n, in their order
+unfoldable pub mapBelow : (ℕ → ℕ) → ℕ → List ℕ
+mapBelow f zero = []
+mapBelow f (suc k) = mapBelow f k ++ (f k ∷ [])
 
 -- the highest number below n that passes a test, or 0
 unfoldable pub highest : (ℕ → Bool) → ℕ → ℕ

@@ -1,9 +1,12 @@
--- Document 01, 'Rest': running by a rule under held words. The budget is a 16-bit number. Assumes nothing.
+-- Document 01, 'Rest', with the causes of document 02 (ix): running by a rule under held words. The budget is a 16-bit number. Assumes
+-- nothing.
 use Prim.Native.Nat.{ℕ, zero, suc}
 use mathlib.Core.Bool.{Bool}
 use mathlib.Core.List.{List}
+use lib.ListN.{replicate}
 use Rattle.rules.specs.Lists.{same, least, Found, Nowhere, At}
-use Rattle.rules.specs.Step.{step}
+use Rattle.rules.specs.Table.{planCount}
+use Rattle.rules.specs.Step.{step, causes}
 
 module _ (rule : ℕ) (t s w : List ℕ) where
   -- the states after k steps
@@ -20,7 +23,12 @@ module _ (rule : ℕ) (t s w : List ℕ) where
   unfolding after
   leastRest budget = least settled (suc budget)
 
-  -- the states after that k, or after the whole budget
-  abbrev pub statesAt : ℕ → Found → List ℕ
-  statesAt budget (At k) = after k
-  statesAt budget Nowhere = after budget
+  -- how many steps a run takes: that k, or the whole budget
+  abbrev pub stepsTaken : ℕ → ℕ
+  stepsTaken budget = elim (leastRest budget) [ At k ↦ k | Nowhere ↦ budget ]
+
+  -- the causes that k steps leave: the last one's, all 0 if there is none
+  unfoldable pub lastCauses : ℕ → List ℕ
+  unfolding after causes
+  lastCauses zero = replicate (planCount t) 0
+  lastCauses (suc k) = causes rule t (after k) w

@@ -1,4 +1,5 @@
--- Document 01, 'States': the nine states, their codes and the three groups. Assumes nothing.
+-- Document 01, 'States': the nine states, their codes and the three groups; and of document 02 (ix) the codes of the causes. Assumes
+-- nothing.
 -- `code` is the one place of the definitions with these numbers; `PlanState::to_byte` holds it to the constants of the source.
 use Prim.Native.Nat.{ℕ}
 use mathlib.Core.Bool.{Bool, false, _||_}
@@ -6,6 +7,8 @@ use mathlib.Core.List.{List, [], _∷_}
 use lib.ListN.{getD, length}
 use lib.Dec.{eqb, ltb}
 use Rattle.rules.specs.Bytes.{byteAt}
+use Rattle.rules.specs.declared.Cause.{Cause}
+use Rattle.rules.specs.declared.Cause.the-variants.{Unmoved, Ordered, OwnCondition, ChildrenLost, Forced}
 use Rattle.rules.specs.declared.PlanState.{PlanState}
 use Rattle.rules.specs.declared.PlanState.the-variants.{
   Inactive,
@@ -67,3 +70,11 @@ ended state = oneOf (Completed ∷ Aborted ∷ Rejected ∷ []) state
 -- 4, 5, 6 or 7: the plan has been Activated since it was last Inactive or retried
 abbrev pub hasRun : PlanState → Bool
 hasRun state = oneOf (Activated ∷ Suspended ∷ Completed ∷ Aborted ∷ []) state
+
+-- why a plan moved: ordered by the parent, its own condition, children lost, forced by the parent's state
+abbrev pub causeCode : Cause → ℕ
+causeCode Unmoved = 0
+causeCode Ordered = 1
+causeCode OwnCondition = 2
+causeCode ChildrenLost = 3
+causeCode Forced = 4

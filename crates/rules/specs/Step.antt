@@ -1,12 +1,12 @@
--- Document 01, 'One step', with the bodies of document 02 (i), the rules of (ii) and the fallback of (vii): what children's states mean to
--- a plan, what each body orders, one move, one step. Assumes nothing.
+-- Document 01, 'One step', with the bodies of document 02 (i), the rules of (ii), the fallback of (vii) and the causes of (ix): one move,
+-- what children's states mean to a plan, what each body orders, one step. Assumes nothing.
 use Prim.Native.Nat.{ℕ, zero, suc}
 use mathlib.Core.Bool.{Bool, true, false, cond, not, _&&_, _||_}
 use mathlib.Core.List.{List, [], _∷_, _++_}
 use lib.ListN.{getD}
 use lib.Dec.{eqb}
-use Rattle.rules.specs.Lists.{all, some, first}
-use Rattle.rules.specs.States.{code, stateAt, oneOf, is, inSelection, inExecution, ended, hasRun}
+use Rattle.rules.specs.Lists.{all, some, first, mapBelow}
+use Rattle.rules.specs.States.{code, causeCode, stateAt, oneOf, is, inSelection, inExecution, ended, hasRun}
 use Rattle.rules.specs.Table.{
   planCount,
   parent,
@@ -35,6 +35,8 @@ use Rattle.rules.specs.declared.Body.the-variants.{
   OnAbortOrSuspend,
   IfThenElse,
 }
+use Rattle.rules.specs.declared.Cause.{Cause}
+use Rattle.rules.specs.declared.Cause.the-variants.{Unmoved, Ordered, OwnCondition, ChildrenLost, Forced}
 use Rattle.rules.specs.declared.PlanEntry.{PlanEntry}
 use Rattle.rules.specs.declared.Orders.{Orders}
 use Rattle.rules.specs.declared.Condition.the-variants.{Filter, Setup, Suspend, Reactivate, Abort, Complete}
@@ -51,27 +53,43 @@ use Rattle.rules.specs.declared.PlanState.the-variants.{
   Rejected,
 }
 
--- One move: document 01's list from the top, and of several lines for one state the first that fits. It knows no tree: `parent` is the
--- parent's new state and `o` what the parent orders; `e` and `x` are the plan's entry and word; `lost` says that too many children are
--- lost, `mayComplete` that the children let the plan complete.
-unfoldable pub move : PlanState → Orders → PlanEntry → ℕ → Bool → Bool → PlanState → PlanState
-move parent o e x lost mayComplete old =
-    let stays : PlanState = old in
-    cond (is Inactive parent || inSelection parent) Inactive
-    (cond (ended parent) (cond (inSelection old) Rejected (cond (inExecution old) Aborted stays))
+-- One move: document 01's list from the top, and of several lines for one state the first that fits. A line ends in the new state and,
+-- by document 02 (ix), the cause; `to` is handed both, and makes the answer of them. The list knows no tree: `parent` is the parent's new
+-- state and `o` what the parent orders; `e` and `x` are the plan's entry and word; `lost` says that too many children are lost,
+-- `mayComplete` that the children let the plan complete.
+unfoldable pub moveBy :
+    {A : Type 0} → (PlanState → Cause → A) → PlanState → Orders → PlanEntry → ℕ → Bool → Bool → PlanState → A
+moveBy to parent o e x lost mayComplete old =
+    let stays = to old Unmoved in
+    cond (is Inactive parent || inSelection parent) (to Inactive (cond (is Inactive old) Unmoved Forced))
+    (cond (ended parent) (cond (inSelection old) (to Rejected Forced) (cond (inExecution old) (to Aborted Forced) stays))
     (elim old [
-      | Inactive ↦ cond (o .considers) Considered stays
-      | Considered ↦ cond (holds Filter e x) Possible (cond (not (satisfiable Filter e x)) Rejected stays)
-      | Possible ↦ cond (holds Setup e x) Ready (cond (not (satisfiable Setup e x)) Rejected stays)
-      | Ready ↦ cond (o .activates) Activated stays
+      | Inactive ↦ cond (o .considers) (to Considered Ordered) stays
+      | Considered ↦
+          cond (holds Filter e x) (to Possible OwnCondition) (cond (not (satisfiable Filter e x)) (to Rejected OwnCondition) stays)
+      | Possible ↦ cond (holds Setup e x) (to Ready OwnCondition) (cond (not (satisfiable Setup e x)) (to Rejected OwnCondition) stays)
+      | Ready ↦ cond (o .activates) (to Activated Ordered) stays
       | Activated ↦
-          cond (holds Abort e x || lost) Aborted
-          (cond (is Suspended parent || holds Suspend e x) Suspended (cond (holds Complete e x && mayComplete) Completed stays))
-      | Suspended ↦ cond (holds Abort e x || lost) Aborted (cond (is Activated parent && holds Reactivate e x) Activated stays)
+          cond (holds Abort e x || lost) (to Aborted (cond (holds Abort e x) OwnCondition ChildrenLost))
+          (cond (is Suspended parent || holds Suspend e x) (to Suspended (cond (is Suspended parent) Forced OwnCondition))
+          (cond (holds Complete e x && mayComplete) (to Completed OwnCondition) stays))
+      | Suspended ↦
+          cond (holds Abort e x || lost) (to Aborted (cond (holds Abort e x) OwnCondition ChildrenLost))
+          (cond (is Activated parent && holds Reactivate e x) (to Activated OwnCondition) stays)
       | Completed ↦ stays
       | Rejected ↦ stays
-      | Aborted ↦ cond (o .retries) Considered stays
+      | Aborted ↦ cond (o .retries) (to Considered Ordered) stays
     ]))
+
+-- the state that a move leads to, and its cause
+abbrev pub theState : PlanState → Cause → PlanState
+theState state cause = state
+
+abbrev pub theCause : PlanState → Cause → Cause
+theCause state cause = cause
+
+abbrev pub move : PlanState → Orders → PlanEntry → ℕ → Bool → Bool → PlanState → PlanState
+move = moveBy theState
 
 -- Orders.
 
@@ -221,16 +239,26 @@ ordersIf t s w choice parentOld parentNew q p =
 -- One step by a rule, from the old states s under the words w.
 module _ (rule : ℕ) (t s w : List ℕ) (choice : ℕ → ℕ) where
   -- plan p, given its parent's new state and orders
-  abbrev pub moveOf : PlanState → Orders → ℕ → PlanState
-  moveOf parentNew o p = move parentNew o (entry t p) (word w p) (tooManyLost t s rule p) (childrenComplete t s p) (stateAt s p)
+  abbrev pub movedBy : {A : Type 0} → (PlanState → Cause → A) → PlanState → Orders → ℕ → A
+  movedBy to parentNew o p = moveBy to parentNew o (entry t p) (word w p) (tooManyLost t s rule p) (childrenComplete t s p) (stateAt s p)
 
-  -- the new state of plan p, where `new` has those of the plans before it: its parent's state is read there, all else in s.
+  abbrev pub moveOf : PlanState → Orders → ℕ → PlanState
+  moveOf = movedBy theState
+
+  -- plan p, where `new` has the new states of the plans before it: its parent's state is read there, all else in s.
   -- The root moves as if under a parent that stays Activated, that considers it when Inactive and activates it when Ready
-  abbrev pub newState : List ℕ → ℕ → PlanState
-  newState new zero = moveOf Activated rootOrders 0
-  newState new (suc k) =
+  abbrev pub newBy : {A : Type 0} → (PlanState → Cause → A) → List ℕ → ℕ → A
+  newBy to new zero = movedBy to Activated rootOrders 0
+  newBy to new (suc k) =
       let q : ℕ = parent t (suc k) in
-      moveOf (stateAt new q) (ordersIf t s w choice (stateAt s q) (stateAt new q) q (suc k)) (suc k)
+      movedBy to (stateAt new q) (ordersIf t s w choice (stateAt s q) (stateAt new q) q (suc k)) (suc k)
+
+  -- its new state, and why it moved
+  abbrev pub newState : List ℕ → ℕ → PlanState
+  newState = newBy theState
+
+  abbrev pub newCause : List ℕ → ℕ → Cause
+  newCause = newBy theCause
 
   -- the new states of the first k plans: plans move in table order
   unfoldable pub stepFirst : ℕ → List ℕ
@@ -241,6 +269,11 @@ module _ (rule : ℕ) (t s w : List ℕ) (choice : ℕ → ℕ) where
   unfolding stepFirst
   stepBy = stepFirst (planCount t)
 
+  -- why each plan moved, where `new` has the new states of all
+  unfoldable pub causesTo : List ℕ → List ℕ
+  unfolding mapBelow
+  causesTo new = mapBelow (λ p. causeCode (newCause new p)) (planCount t)
+
 -- one step by a rule under picks, and under the picks of the words
 unfoldable pub stepUnder : ℕ → List ℕ → List ℕ → List ℕ → (ℕ → ℕ) → List ℕ
 unfolding stepBy chosen
@@ -249,3 +282,8 @@ stepUnder rule t s w pick = stepBy rule t s w (chosen t s pick)
 unfoldable pub step : ℕ → List ℕ → List ℕ → List ℕ → List ℕ
 unfolding stepUnder
 step rule t s w = stepUnder rule t s w (λ q. pickOf (word w q))
+
+-- and its causes: demand 2 fixes them too
+unfoldable pub causes : ℕ → List ℕ → List ℕ → List ℕ → List ℕ
+unfolding chosen causesTo step
+causes rule t s w = causesTo rule t s w (chosen t s (λ q. pickOf (word w q))) (step rule t s w)

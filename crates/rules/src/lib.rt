@@ -5,7 +5,7 @@ ghost use Prim.Native.Nat.{_<_};
 ghost use lib.Count.{ones};
 ghost use lib.Dec.{leb};
 ghost use Rattle.rules.specs.Bytes.{isSet};
-ghost use Rattle.rules.specs.States.{code, stateOf, is, inSelection, inExecution, ended, hasRun};
+ghost use Rattle.rules.specs.States.{code, stateOf, is, inSelection, inExecution, ended, hasRun, causeCode};
 ghost use Rattle.rules.specs.Table.{bodyNumber, bodyOf, isBody, ofTwo, retryAborted, waitForOptional, named, bitOf};
 ghost use Rattle.rules.specs.WaitFor.{joined, asks};
 ghost use Rattle.rules.specs.Answers.{isRule};
@@ -115,6 +115,30 @@ impl PlanState {
     {
         let b = self.to_byte();
         (PlanState::ACTIVATED <= b) & (b <= PlanState::ABORTED)
+    }
+}
+
+// Why a plan moved in a step.
+pub enum Cause {
+    Unmoved,
+    Ordered,
+    OwnCondition,
+    ChildrenLost,
+    Forced,
+}
+
+impl Cause {
+    // The code of the cause.
+    pub fn to_byte(self) -> u8
+        ensures { λ r. ⌜ r ≡ causeCode self ⌝ }
+    {
+        match self {
+            Cause::Unmoved => 0,
+            Cause::Ordered => 1,
+            Cause::OwnCondition => 2,
+            Cause::ChildrenLost => 3,
+            Cause::Forced => 4,
+        }
     }
 }
 

@@ -1,14 +1,22 @@
--- What a call of the step leaves: where it is refused the states as they were, else those of the step. Assumes nothing.
+-- What a call of the step leaves: where it is refused the states and causes as they were, else those of the step. Assumes nothing.
 use Prim.Native.Nat.{ℕ}
-use mathlib.Core.Path.{_≡_, refl}
+use mathlib.Core.Path.{_≡_, refl, sym}
 use mathlib.Core.List.{List}
-use Rattle.rules.specs.Step.{step}
-use Rattle.rules.specs.Answers.{callCheck, stepStates}
+use Rattle.rules.specs.Step.{step, causes}
+use Rattle.rules.specs.Answers.{callCheck, stepAnswer, stepStates, stepCauses}
+use Rattle.rules.specs.declared.Outcome.{Outcome}
 use Rattle.rules.specs.declared.Refusal.{Refusal}
 use Rattle.rules.specs.declared.Outcome.the-variants.{Done, Refused}
 
-pub step-leaves : (rule : ℕ) (t s w : List ℕ) (why : Refusal) → callCheck rule t s w ≡ Refused why → s ≡ stepStates rule t s w
-step-leaves rule t s w why e = rw (stepStates, e) refl
+module _ (rule : ℕ) (t s w c : List ℕ) where
+  -- the answer, and the states and causes that are left
+  abbrev Left : Outcome → List ℕ → List ℕ → Type 0
+  Left r states told =
+      (r ≡ stepAnswer rule t s w c) × (states ≡ stepStates rule t s w c) × (told ≡ stepCauses rule t s w c)
 
-pub step-steps : (rule : ℕ) (t s w new : List ℕ) → callCheck rule t s w ≡ Done → new ≡ step rule t s w → new ≡ stepStates rule t s w
-step-steps rule t s w new e h = rw (stepStates, e) h
+  pub step-refused : (why : Refusal) → callCheck rule t s w c ≡ Refused why → Left (Refused why) s c
+  step-refused why e = (sym e, rw (stepStates, e) refl, rw (stepCauses, e) refl)
+
+  pub step-done :
+      (new told : List ℕ) → callCheck rule t s w c ≡ Done → new ≡ step rule t s w → told ≡ causes rule t s w → Left Done new told
+  step-done new told e left why = (sym e, rw (stepStates, e) left, rw (stepCauses, e) why)

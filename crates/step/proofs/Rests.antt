@@ -6,10 +6,12 @@ use mathlib.Core.Path.{_≡_, refl, sym, ap, _∙_}
 use mathlib.Core.Bool.{Bool, true, false}
 use mathlib.Core.List.{List}
 use borrow.Author.Count.{below-none, below-more}
+use lib.ListN.{replicate}
 use Rattle.rules.specs.Lists.{same}
-use Rattle.rules.specs.Step.{step}
-use Rattle.rules.specs.Rest.{after, settled, leastRest, statesAt}
-use Rattle.rules.specs.Answers.{callCheck, restAnswer, runAnswer, runStates}
+use Rattle.rules.specs.Table.{planCount}
+use Rattle.rules.specs.Step.{step, causes as Step·causes}
+use Rattle.rules.specs.Rest.{after, settled, leastRest, stepsTaken, lastCauses}
+use Rattle.rules.specs.Answers.{callCheck, restAnswer, runAnswer, runStates, runCauses}
 use Rattle.rules.specs.declared.Refusal.{Refusal}
 use Rattle.rules.specs.declared.Outcome.the-variants as outcome
 use Rattle.rules.specs.declared.Rest.{Rest}
@@ -18,10 +20,12 @@ use Rattle.lowest.proofs.Lowest.{lowest-at, lowest-none, stops-here, ends-here}
 use Rattle.demands.specs.BranchesAgree.{BranchesAgree}
 use Rattle.demands.proofs.PassedCall.{after-passes}
 use Rattle.lent.specs.Calls.{MayMove}
+use Rattle.step.specs.Runs.{Ran}
 
--- after k steps, none of which was without change, the states are these
-pub record Running (rule : ℕ) (t s w : List ℕ) (k : ℕ) (states : List ℕ) : Type 0 where
+-- after k steps, none of which was without change, the states are these, and the causes those of the last one
+pub record Running (rule : ℕ) (t s w : List ℕ) (k : ℕ) (states causes : List ℕ) : Type 0 where
   pub is : states ≡ after rule t s w k
+  pub told : causes ≡ lastCauses rule t s w k
   pub moved : (j : ℕ) → j < k → settled rule t s w j ≡ false
 
 module _ (rule : ℕ) (t s w ranks names : List ℕ) (moves : MayMove t s w ranks names) (words : BranchesAgree t w) where
@@ -33,31 +37,33 @@ module _ (rule : ℕ) (t s w ranks names : List ℕ) (moves : MayMove t s w rank
         words = moves .words;
       }
 
-  pub moves-still : (k : ℕ) (states : List ℕ) → Running rule t s w k states → MayMove t states w ranks names
-  moves-still k states running = rw (running .is) (moves-after k)
+  pub moves-still : (k : ℕ) (states causes : List ℕ) → Running rule t s w k states causes → MayMove t states w ranks names
+  moves-still k states causes running = rw (running .is) (moves-after k)
 
 module _ (rule : ℕ) (t s w : List ℕ) where
-  pub running-none : Running rule t s w 0 s
-  unfolding after
-  running-none = record { is = refl; moved = below-none _ }
+  pub running-none : (causes : List ℕ) → causes ≡ replicate (planCount t) 0 → Running rule t s w 0 s causes
+  unfolding after lastCauses
+  running-none causes e = record { is = refl; told = e; moved = below-none _ }
 
-  module _ (k : ℕ) (states : List ℕ) (running : Running rule t s w k states) where
+  module _ (k : ℕ) (states causes : List ℕ) (running : Running rule t s w k states causes) where
     now-settled : (b : Bool) → b ≡ same (step rule t states w) states → settled rule t s w k ≡ b
     now-settled b e = ap (λ (x : List ℕ). same (step rule t x w) x) (sym (running .is)) ∙ sym e
 
     pub running-next :
-        (next : List ℕ) → same (step rule t states w) states ≡ false → next ≡ step rule t states w → Running rule t s w (k + 1) next
-    unfolding after
-    running-next next e h =
+        (next why : List ℕ) → same (step rule t states w) states ≡ false → next ≡ step rule t states w → why ≡ Step·causes rule t states w
+        → Running rule t s w (k + 1) next why
+    unfolding after lastCauses
+    running-next next why e h told =
         record {
           is = h ∙ ap (λ (x : List ℕ). step rule t x w) (running .is) ∙ ap (after rule t s w) (sym (add-one k));
+          told =
+              told ∙ ap (λ (x : List ℕ). Step·causes rule t x w) (running .is) ∙ ap (lastCauses rule t s w) (sym (add-one k));
           moved = below-more (λ (j : ℕ). settled rule t s w j ≡ false) k (running .moved) (now-settled false (sym e));
         }
 
     -- the run ends: here
     pub rests :
-        (budget : ℕ) → k ≤ budget → same (step rule t states w) states ≡ true
-        → (Rested k ≡ restAnswer (leastRest rule t s w budget)) × (states ≡ statesAt rule t s w budget (leastRest rule t s w budget))
+        (budget : ℕ) → k ≤ budget → same (step rule t states w) states ≡ true → Ran rule t s w budget (Rested k) states causes
     unfolding leastRest
     rests budget l e =
         let found =
@@ -65,12 +71,15 @@ module _ (rule : ℕ) (t s w : List ℕ) where
         (stops-here (settled rule t s w) (suc budget) k (running .moved) (omega arith) (now-settled true (sym e)))
         (omega arith)
         in
-        (rw (found, restAnswer) refl, rw (found, statesAt) (running .is))
+        record {
+          answer = rw (found, restAnswer) refl;
+          left = rw (stepsTaken, found) (running .is);
+          told = rw (stepsTaken, found) (running .told);
+        }
 
     -- or the budget does
     pub moves :
-        (budget : ℕ) → k ≡ budget → same (step rule t states w) states ≡ false
-        → (Moving ≡ restAnswer (leastRest rule t s w budget)) × (states ≡ statesAt rule t s w budget (leastRest rule t s w budget))
+        (budget : ℕ) → k ≡ budget → same (step rule t states w) states ≡ false → Ran rule t s w budget Moving states causes
     unfolding leastRest
     moves budget l e =
         let none =
@@ -80,19 +89,25 @@ module _ (rule : ℕ) (t s w : List ℕ) where
         (omega arith))
         (omega arith)
         in
-        (rw (none, restAnswer) refl, rw (none, statesAt) (running .is ∙ ap (after rule t s w) l))
+        record {
+          answer = rw (none, restAnswer) refl;
+          left = rw (stepsTaken, none) (running .is ∙ ap (after rule t s w) l);
+          told = rw (stepsTaken, none) (running .told ∙ ap (lastCauses rule t s w) l);
+        }
 
 -- what the run answers and leaves
-module _ (rule : ℕ) (t s w : List ℕ) (budget : ℕ) where
-  pub run-refused :
-      (why : Refusal) → callCheck rule t s w ≡ outcome.Refused why
-      → (Refused why ≡ runAnswer rule t s w budget) × (s ≡ runStates rule t s w budget)
-  unfolding runAnswer runStates
-  run-refused why e = (rw (e, runAnswer) refl, rw (e, runStates) refl)
+module _ (rule : ℕ) (t s w c : List ℕ) (budget : ℕ) where
+  abbrev Left : Rest → List ℕ → List ℕ → Type 0
+  Left r states told =
+      (r ≡ runAnswer rule t s w c budget) × (states ≡ runStates rule t s w c budget) × (told ≡ runCauses rule t s w c budget)
+
+  pub run-refused : (why : Refusal) → callCheck rule t s w c ≡ outcome.Refused why → Left (Refused why) s c
+  unfolding runAnswer runStates runCauses
+  run-refused why e = (rw (e, runAnswer) refl, rw (e, runStates) refl, rw (e, runCauses) refl)
 
   pub run-done :
-      (r : Rest) (states : List ℕ) → callCheck rule t s w ≡ outcome.Done → r ≡ restAnswer (leastRest rule t s w budget)
-      → states ≡ statesAt rule t s w budget (leastRest rule t s w budget)
-      → (r ≡ runAnswer rule t s w budget) × (states ≡ runStates rule t s w budget)
-  unfolding runAnswer runStates
-  run-done r states e answer left = (rw (e, runAnswer) answer, rw (e, runStates) left)
+      (r : Rest) (states told : List ℕ) → callCheck rule t s w c ≡ outcome.Done → Ran rule t s w budget r states told
+      → Left r states told
+  unfolding runAnswer runStates runCauses
+  run-done r states told e ran =
+      (rw (e, runAnswer) (ran .answer), rw (e, runStates) (ran .left), rw (e, runCauses) (ran .told))

@@ -3,14 +3,18 @@
 ghost use mathlib.Core.Path.{_≡_};
 ghost use mathlib.Core.Bool.{cond};
 ghost use lib.Dec.{ltb};
-ghost use lib.ListN.{length};
+ghost use Prim.Native.Nat.{ℕ, _≤_, _<_};
+ghost use lib.ListN.{length, take};
 ghost use Rattle.rules.specs.Table.{planCount};
 ghost use Rattle.rules.specs.Step.{step};
-ghost use Rattle.rules.specs.Rest.{leastRest, statesAt};
-ghost use Rattle.rules.specs.Answers.{stepAnswer, stepStates, restAnswer, runAnswer, runStates};
+ghost use Rattle.rules.specs.Step.{causes as Step·causes};
+ghost use Rattle.rules.specs.Answers.{stepAnswer, stepStates, stepCauses, runAnswer, runStates, runCauses};
 ghost use Rattle.table.specs.Facts.{FactsRoom};
+ghost use Rattle.moves.specs.Causes.{causesTold};
+ghost use Rattle.moves.specs.MoveFacts.{CauseFacts};
 ghost use Rattle.lent.specs.Calls.{MayMove};
 ghost use Rattle.demands.specs.BranchesAgree.{BranchesAgree};
+ghost use Rattle.step.specs.Runs.{Ran};
 ghost use Rattle.step.specs.WorkSpace.{StepRoom, RoomToStep};
 use children::resurvey;
 use children::survey;
@@ -18,16 +22,21 @@ use lent::check_call;
 use pass::advance;
 use pass::take_over;
 use pass::take_picks;
+use pass::tell_causes;
 use pass::unchanged;
 use reading::plan_count;
 use rules::Outcome;
 use rules::Rest;
 
-// One synchronous step over the states, by a rule, or a refusal that changes none of them. Its work space is cleared in each call: a
-// small tree does not pay for a large one.
-pub fn step(rule: u32, table: &[u8], states: &mut [u8], words: &[u8]) -> Outcome
-    ensures answer { λ r. ⌜ r ≡ stepAnswer rule (now (table .entry)) (now (states .entry)) (now (words .entry)) ⌝ }
-    ensures left { λ _. ⌜ now (states .exit) ≡ stepStates rule (now (table .entry)) (now (states .entry)) (now (words .entry)) ⌝ }
+// One synchronous step over the states, by a rule, with the causes of all plans' moves; or a refusal that changes no state and no cause.
+// Its work space is cleared in each call: a small tree does not pay for a large one.
+pub fn step(rule: u32, table: &[u8], states: &mut [u8], words: &[u8], causes: &mut [u8]) -> Outcome
+    ensures answer { λ r. ⌜ r ≡ stepAnswer rule (now (table .entry)) (now (states .entry)) (now (words .entry))
+        (now (causes .entry)) ⌝ }
+    ensures left { λ _. ⌜ now (states .exit) ≡ stepStates rule (now (table .entry)) (now (states .entry)) (now (words .entry))
+        (now (causes .entry)) ⌝ }
+    ensures told { λ _. ⌜ now (causes .exit) ≡ stepCauses rule (now (table .entry)) (now (states .entry)) (now (words .entry))
+        (now (causes .entry)) ⌝ }
 {
     let n = plans_told(table);
     if n <= 16 {
@@ -41,6 +50,7 @@ pub fn step(rule: u32, table: &[u8], states: &mut [u8], words: &[u8]) -> Outcome
             table,
             states,
             words,
+            causes,
             &mut ranks,
             &mut counts,
             &mut names,
@@ -59,6 +69,7 @@ pub fn step(rule: u32, table: &[u8], states: &mut [u8], words: &[u8]) -> Outcome
             table,
             states,
             words,
+            causes,
             &mut ranks,
             &mut counts,
             &mut names,
@@ -76,6 +87,7 @@ pub fn step(rule: u32, table: &[u8], states: &mut [u8], words: &[u8]) -> Outcome
         table,
         states,
         words,
+        causes,
         &mut ranks,
         &mut counts,
         &mut names,
@@ -84,10 +96,22 @@ pub fn step(rule: u32, table: &[u8], states: &mut [u8], words: &[u8]) -> Outcome
     )
 }
 
-// Steps by a rule under held words until one more step changes nothing, or until the budget is used; or a refusal that changes no state.
-pub fn rest(rule: u32, table: &[u8], states: &mut [u8], words: &[u8], budget: u16) -> Rest
-    ensures answer { λ r. ⌜ r ≡ runAnswer rule (now (table .entry)) (now (states .entry)) (now (words .entry)) budget ⌝ }
-    ensures left { λ _. ⌜ now (states .exit) ≡ runStates rule (now (table .entry)) (now (states .entry)) (now (words .entry)) budget ⌝ }
+// Steps by a rule under held words until one more step changes nothing, or until the budget is used, with the causes of the last step
+// taken; or a refusal that changes no state and no cause.
+pub fn rest(
+    rule: u32,
+    table: &[u8],
+    states: &mut [u8],
+    words: &[u8],
+    causes: &mut [u8],
+    budget: u16,
+) -> Rest
+    ensures answer { λ r. ⌜ r ≡ runAnswer rule (now (table .entry)) (now (states .entry)) (now (words .entry))
+        (now (causes .entry)) budget ⌝ }
+    ensures left { λ _. ⌜ now (states .exit) ≡ runStates rule (now (table .entry)) (now (states .entry)) (now (words .entry))
+        (now (causes .entry)) budget ⌝ }
+    ensures told { λ _. ⌜ now (causes .exit) ≡ runCauses rule (now (table .entry)) (now (states .entry)) (now (words .entry))
+        (now (causes .entry)) budget ⌝ }
 {
     let mut ranks = [0u8; 256];
     let mut counts = [0u8; 256];
@@ -97,12 +121,13 @@ pub fn rest(rule: u32, table: &[u8], states: &mut [u8], words: &[u8], budget: u1
         table,
         states,
         words,
+        causes,
         &mut ranks,
         &mut counts,
         &mut names,
     ) {
         Outcome::Refused(why) => Rest::Refused(why),
-        Outcome::Done => settle(rule, table, &ranks, &names, states, words, budget),
+        Outcome::Done => settle(rule, table, &ranks, &names, states, words, causes, budget),
     }
 }
 
@@ -122,6 +147,7 @@ fn step_within(
     table: &[u8],
     states: &mut [u8],
     words: &[u8],
+    causes: &mut [u8],
     ranks: &mut [u8],
     counts: &mut [u8],
     names: &mut [u64],
@@ -130,14 +156,29 @@ fn step_within(
 ) -> Outcome
     requires facts { ⌜ FactsRoom (now table) (now ranks) (now counts) (now names) ⌝ }
     requires room { ⌜ RoomToStep (now table) (now sets) (now new) ⌝ }
-    ensures answer { λ r. ⌜ r ≡ stepAnswer rule (now (table .entry)) (now (states .entry)) (now (words .entry)) ⌝ }
-    ensures left { λ _. ⌜ now (states .exit) ≡ stepStates rule (now (table .entry)) (now (states .entry)) (now (words .entry)) ⌝ }
+    ensures answer { λ r. ⌜ r ≡ stepAnswer rule (now (table .entry)) (now (states .entry)) (now (words .entry))
+        (now (causes .entry)) ⌝ }
+    ensures left { λ _. ⌜ now (states .exit) ≡ stepStates rule (now (table .entry)) (now (states .entry)) (now (words .entry))
+        (now (causes .entry)) ⌝ }
+    ensures told { λ _. ⌜ now (causes .exit) ≡ stepCauses rule (now (table .entry)) (now (states .entry)) (now (words .entry))
+        (now (causes .entry)) ⌝ }
 {
-    match check_call(rule, table, states, words, ranks, counts, names) {
+    match check_call(rule, table, states, words, causes, ranks, counts, names) {
         Outcome::Refused(why) => Outcome::Refused(why),
         Outcome::Done => {
             // the numbers of children are done with: their room is the picks'
-            step_over(rule, table, ranks, names, states, words, sets, counts, new);
+            step_over(
+                rule,
+                table,
+                ranks,
+                names,
+                states,
+                words,
+                causes,
+                sets,
+                counts,
+                new,
+            );
             Outcome::Done
         }
     }
@@ -151,13 +192,16 @@ fn step_over(
     names: &[u64],
     states: &mut [u8],
     words: &[u8],
+    causes: &mut [u8],
     sets: &mut [u64],
     picks: &mut [u8],
     new: &mut [u8],
 )
     requires moves { ⌜ MayMove (now table) (now states) (now words) (now ranks) (now names) ⌝ }
     requires room { ⌜ StepRoom (length (now states)) (now sets) (now picks) (now new) ⌝ }
-    ensures { λ _. ⌜ now (states .exit) ≡ step rule (now (table .entry)) (now (states .entry)) (now (words .entry)) ⌝ }
+    requires told { ⌜ length (now causes) ≡ length (now states) ⌝ }
+    ensures left { λ _. ⌜ now (states .exit) ≡ step rule (now (table .entry)) (now (states .entry)) (now (words .entry)) ⌝ }
+    ensures told { λ _. ⌜ now (causes .exit) ≡ Step·causes rule (now (table .entry)) (now (states .entry)) (now (words .entry)) ⌝ }
 {
     let n = states.len();
     survey(table, n, ranks, states, sets);
@@ -174,6 +218,18 @@ fn step_over(
         words,
         new,
     );
+    take_step(table, words, new, states, causes);
+}
+
+// Takes a step that has been worked out: tells why the plans move, and moves them.
+fn take_step(table: &[u8], words: &[u8], new: &[u8], states: &mut [u8], causes: &mut [u8])
+    requires told { ⌜ ((p : ℕ) → p < length (now causes) → CauseFacts (now table) (now states) (now words) (now new) p) ⌝ }
+    requires room { ⌜ length (now states) ≤ length (now new) ⌝ }
+    ensures left { λ _. ⌜ now (states .exit) ≡ take (length (now (states .entry))) (now (new .entry)) ⌝ }
+    ensures told { λ _. ⌜ now (causes .exit) ≡ causesTold (now (table .entry)) (now (states .entry)) (now (words .entry))
+        (now (new .entry)) (length (now (causes .entry))) ⌝ }
+{
+    tell_causes(table, states, words, new, causes);
     take_over(new, states);
 }
 
@@ -185,15 +241,14 @@ fn settle(
     names: &[u64],
     states: &mut [u8],
     words: &[u8],
+    causes: &mut [u8],
     budget: u16,
 ) -> Rest
     requires moves { ⌜ MayMove (now table) (now states) (now words) (now ranks) (now names) ⌝ }
     requires words { ⌜ BranchesAgree (now table) (now words) ⌝ }
-    ensures answer { λ r. ⌜ r
-        ≡ restAnswer (leastRest rule (now (table .entry)) (now (states .entry)) (now (words .entry)) budget) ⌝ }
-    ensures left { λ _. ⌜ now (states .exit)
-        ≡ statesAt rule (now (table .entry)) (now (states .entry)) (now (words .entry)) budget
-        (leastRest rule (now (table .entry)) (now (states .entry)) (now (words .entry)) budget) ⌝ }
+    requires told { ⌜ length (now causes) ≡ length (now states) ⌝ }
+    ensures { λ r. ⌜ Ran rule (now (table .entry)) (now (states .entry)) (now (words .entry)) budget
+        r (now (states .exit)) (now (causes .exit)) ⌝ }
 {
     let n = states.len();
     let mut sets = [0u64; 2304];
@@ -201,6 +256,8 @@ fn settle(
     let mut new = [0u8; 256];
     survey(table, n, ranks, states, &mut sets);
     take_picks(words, n, &mut picks);
+    // no step so far: every plan is where it was
+    tell_causes(table, states, words, states, causes);
     let mut k = 0u16;
     loop {
         advance(
@@ -222,7 +279,7 @@ fn settle(
             return Rest::Moving;
         }
         resurvey(table, n, ranks, states, &new[..n], &mut sets);
-        take_over(&new, states);
+        take_step(table, words, &new, states, causes);
         k += 1;
     }
 }

@@ -15,9 +15,10 @@ pub figure-kept :
     (κs : _) (a : _) (z : ℕ) (e : _) → asbru-rest.Post κs a z e
     → (κs′ : _) (a′ : _) (k : ℕ) (e′ : _) → asbru-bound.Post κs′ a′ (packed 0 k 0) e′
     → now (a′ .0) ≡ now (a .1 .0) → now (a′ .1 .0) ≡ now (a .1 .1 .1 .0)
-    → callCheck (a .0) (now (a .1 .0)) (now (a .1 .1 .0)) (now (a .1 .1 .1 .0)) ≡ Done → k ≤ a .1 .1 .1 .1 .0
+    → callCheck (a .0) (now (a .1 .0)) (now (a .1 .1 .0)) (now (a .1 .1 .1 .0)) (now (a .1 .1 .1 .1 .0)) ≡ Done
+    → k ≤ a .1 .1 .1 .1 .1 .0
     → (j : ℕ) × (j ≤ k) × (z ≡ packed 0 j 0)
 figure-kept κs a z e rested κs′ a′ k e′ asked same-table same-words done large =
     let kept : RestsWithin (now (a .1 .0)) (now (a .1 .1 .1 .0)) k = rw (same-table, same-words) at (asked .1 k refl) in
-    let run = kept .rests _ _ _ done large in
-    (run .steps, run .few, rested .0 ∙ ap (packedRest (a .1 .1 .1 .1 .0)) (run .answer))
+    let run = kept .rests _ _ _ _ done large in
+    (run .steps, run .few, rested .0 ∙ ap (packedRest (a .1 .1 .1 .1 .1 .0)) (run .answer))

@@ -39,7 +39,7 @@ use Rattle.rules.specs.declared.Rest.{Rest}
 use Rattle.rules.specs.declared.Rest.the-variants as rest
 use Rattle.rules.specs.declared.Figure.{Figure}
 use Rattle.rules.specs.declared.Figure.the-variants as figure
-use Rattle.rules.proofs.Unique.{one-answer, by-equation, OneAnswer, OneAnswerLeaving}
+use Rattle.rules.proofs.Unique.{one-answer, by-equation, OneAnswer, OneAnswerLeaving, OneAnswerLeavingTwo}
 use Rattle.demands.proofs.Unique.{judged-once}
 use Rattle.time.proofs.Unique as time
 use Rattle.tablet.proofs.asbru_step.Reads as asbru-step
@@ -70,11 +70,11 @@ told-once rule t r x y = x .told ∙ ap packedVerdict (judged-once rule t r (x .
 pub asbru-check-once : OneAnswer asbru-check.Post
 asbru-check-once = record { once = λ κs a z z′ e e′ h h′. told-once (a .0) (now (a .1 .0)) (now (a .1 .1 .0)) h h′ }
 
-pub asbru-step-once : OneAnswerLeaving asbru-step.Post (λ e. now (e .1 .1 .0))
-asbru-step-once κs a z z′ e e′ h h′ = (one-answer (h .0) (h′ .0), one-answer (h .1) (h′ .1))
+pub asbru-step-once : OneAnswerLeavingTwo asbru-step.Post (λ e. now (e .1 .1 .0)) (λ e. now (e .1 .1 .1 .1 .0))
+asbru-step-once κs a z z′ e e′ h h′ = (one-answer (h .0) (h′ .0), one-answer (h .1 .0) (h′ .1 .0), one-answer (h .1 .1) (h′ .1 .1))
 
-pub asbru-rest-once : OneAnswerLeaving asbru-rest.Post (λ e. now (e .1 .1 .0))
-asbru-rest-once κs a z z′ e e′ h h′ = (one-answer (h .0) (h′ .0), one-answer (h .1) (h′ .1))
+pub asbru-rest-once : OneAnswerLeavingTwo asbru-rest.Post (λ e. now (e .1 .1 .0)) (λ e. now (e .1 .1 .1 .1 .0))
+asbru-rest-once κs a z z′ e e′ h h′ = (one-answer (h .0) (h′ .0), one-answer (h .1 .0) (h′ .1 .0), one-answer (h .1 .1) (h′ .1 .1))
 
 pub asbru-bound-once : OneAnswer asbru-bound.Post
 asbru-bound-once = record { once = λ κs a z z′ e e′ h h′. one-answer (h .0) (h′ .0) }

@@ -5,7 +5,7 @@ ghost use Prim.Native.Nat.{ℕ};
 ghost use mathlib.Core.Path.{_≡_};
 ghost use mathlib.Core.Bool.{cond};
 ghost use Rattle.rules.specs.Words.{withBits, withPattern};
-ghost use Rattle.rules.specs.Answers.{stepAnswer, stepStates, runAnswer, runStates};
+ghost use Rattle.rules.specs.Answers.{stepAnswer, stepStates, stepCauses, runAnswer, runStates, runCauses};
 ghost use Rattle.demands.specs.Bound.{RestsWithin, boundAnswer};
 ghost use Rattle.versions.specs.Versions.{checkTo1, checkTo2, inVersion1, inVersion2, moveAnswer, moveOutput};
 ghost use Rattle.tablet.specs.Packed.{packed, packedRefusal, packedOutcome, packedRest, packedBound, packedVerdict, Told};
@@ -19,29 +19,48 @@ use rules::Rest;
 use rules::Verdict;
 use time::Judgement;
 
-// One synchronous step over the states, by a rule, or a refusal that changes none of them.
+// One synchronous step over the states, by a rule, with the causes of all plans' moves; or a refusal that changes no state and no cause.
 #[no_mangle]
-pub extern "C" fn asbru_step(rule: u32, table: &[u8], states: &mut [u8], words: &[u8]) -> u64
-    ensures answer { λ r. ⌜ r ≡ packedOutcome (stepAnswer rule (now (table .entry)) (now (states .entry)) (now (words .entry))) ⌝ }
-    ensures left { λ _. ⌜ now (states .exit) ≡ stepStates rule (now (table .entry)) (now (states .entry)) (now (words .entry)) ⌝ }
+pub extern "C" fn asbru_step(
+    rule: u32,
+    table: &[u8],
+    states: &mut [u8],
+    words: &[u8],
+    causes: &mut [u8],
+) -> u64
+    ensures answer { λ r. ⌜ r ≡ packedOutcome (stepAnswer rule (now (table .entry)) (now (states .entry)) (now (words .entry))
+        (now (causes .entry))) ⌝ }
+    ensures left { λ _. ⌜ now (states .exit) ≡ stepStates rule (now (table .entry)) (now (states .entry)) (now (words .entry))
+        (now (causes .entry)) ⌝ }
+    ensures told { λ _. ⌜ now (causes .exit) ≡ stepCauses rule (now (table .entry)) (now (states .entry)) (now (words .entry))
+        (now (causes .entry)) ⌝ }
 {
-    pack_outcome(step::step(rule, table, states, words))
+    pack_outcome(step::step(rule, table, states, words, causes))
 }
 
-// Steps by a rule under held words until one more step changes nothing, or until the budget is used; or a refusal that changes no state.
+// Steps by a rule under held words until one more step changes nothing, or until the budget is used, with the causes of the last step
+// taken; or a refusal that changes no state and no cause.
 #[no_mangle]
 pub extern "C" fn asbru_rest(
     rule: u32,
     table: &[u8],
     states: &mut [u8],
     words: &[u8],
+    causes: &mut [u8],
     budget: u16,
 ) -> u64
     ensures answer { λ r. ⌜ r
-        ≡ packedRest budget (runAnswer rule (now (table .entry)) (now (states .entry)) (now (words .entry)) budget) ⌝ }
-    ensures left { λ _. ⌜ now (states .exit) ≡ runStates rule (now (table .entry)) (now (states .entry)) (now (words .entry)) budget ⌝ }
+        ≡ packedRest budget (runAnswer rule (now (table .entry)) (now (states .entry)) (now (words .entry))
+        (now (causes .entry)) budget) ⌝ }
+    ensures left { λ _. ⌜ now (states .exit) ≡ runStates rule (now (table .entry)) (now (states .entry)) (now (words .entry))
+        (now (causes .entry)) budget ⌝ }
+    ensures told { λ _. ⌜ now (causes .exit) ≡ runCauses rule (now (table .entry)) (now (states .entry)) (now (words .entry))
+        (now (causes .entry)) budget ⌝ }
 {
-    pack_rest(step::rest(rule, table, states, words, budget), budget)
+    pack_rest(
+        step::rest(rule, table, states, words, causes, budget),
+        budget,
+    )
 }
 
 // The most steps that a run under these words takes to rest, by either rule and from all states that pass, where that is known.

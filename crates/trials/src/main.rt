@@ -3,6 +3,8 @@
 //   subtree TABLE STATES PLAN             asks for a sub tree
 //   move RULE TABLE STATES WORDS          takes one step, and shows the states that it leaves
 //   rest RULE TABLE STATES WORDS BUDGET   steps until rest, and shows the states that it leaves
+//   why RULE TABLE STATES WORDS CAUSES           likewise one step, and shows the causes that it leaves too
+//   last RULE TABLE STATES WORDS CAUSES BUDGET   likewise until rest
 //   bound TABLE WORDS                     asks for the most steps to rest
 //   judge RULE TABLE RECORD               checks a record
 //   up TABLE OUTPUT                       moves a table to version 2, and shows the output that it leaves
@@ -72,8 +74,10 @@ fn run_line(line: &[u8]) {
         }
         b't' => run_table(line),
         b's' => run_sub_tree(line),
-        b'm' => run_call(line, false),
-        b'r' => run_call(line, true),
+        b'm' => run_call(line, false, false),
+        b'r' => run_call(line, true, false),
+        b'w' => run_call(line, false, true),
+        b'l' => run_call(line, true, true),
         b'b' => run_bound(line),
         b'j' => run_judge(line),
         b'u' => run_move(line, true),
@@ -206,25 +210,30 @@ fn run_sub_tree(line: &[u8]) {
     let mut states = io::buffer();
     let m = bytes_of(field(line, 2), &mut states);
     print_bytes(table::sub_tree(&space[..n], &states[..m], number_of(field(line, 3))));
+    end_line();
 }
 
-// Lends a table, states and words to the step, or to the run to rest.
-fn run_call(line: &[u8], rests: bool) {
+// Lends a table, states, words and room for causes to the step, or to the run to rest. Where the line does not tell what stands in that
+// room, there is as much as the states take, and it is not shown.
+fn run_call(line: &[u8], rests: bool, told: bool) {
     let mut space = io::buffer();
     let n = bytes_of(field(line, 2), &mut space);
     let mut states = io::buffer();
     let m = bytes_of(field(line, 3), &mut states);
     let mut words = io::buffer();
     let k = bytes_of(field(line, 4), &mut words);
-    let rule = rule_of(line);
-    let budget = (number_of(field(line, 5)) % 65536) as u16;
+    let mut causes = io::buffer();
+    let j = bytes_of(field(line, if told { 5 } else { 3 }), &mut causes);
+    let budget = number_of(field(line, if told { 6 } else { 5 })) % 65536;
     call(
-        rule,
+        rule_of(line),
         &space[..n],
         &mut states[..m],
         &words[..k],
-        budget,
+        &mut causes[..j],
+        budget as u16,
         rests,
+        told,
     );
 }
 
@@ -233,14 +242,32 @@ fn rule_of(line: &[u8]) -> u32 {
     number_of(field(line, 1)) as u32
 }
 
-fn call(rule: u32, table: &[u8], states: &mut [u8], words: &[u8], budget: u16, rests: bool) {
+fn call(
+    rule: u32,
+    table: &[u8],
+    states: &mut [u8],
+    words: &[u8],
+    causes: &mut [u8],
+    budget: u16,
+    rests: bool,
+    told: bool,
+) {
     if rests {
-        print_rest(step::rest(rule, table, states, words, budget));
-        print_left(states);
+        print_rest(step::rest(rule, table, states, words, causes, budget));
+        print_lent(states, causes, told);
         return;
     }
-    print_outcome(step::step(rule, table, states, words));
-    print_left(states);
+    print_outcome(step::step(rule, table, states, words, causes));
+    print_lent(states, causes, told);
+}
+
+// What a call leaves.
+fn print_lent(states: &[u8], causes: &[u8], told: bool) {
+    print_shown(states);
+    if told {
+        print_shown(causes);
+    }
+    end_line();
 }
 
 fn run_bound(line: &[u8]) {
@@ -287,6 +314,11 @@ fn move_table(table: &[u8], output: &mut [u8], up: bool) {
 }
 
 fn print_left(lent: &[u8]) {
+    print_shown(lent);
+    end_line();
+}
+
+fn print_shown(lent: &[u8]) {
     print(b" ");
     print_bytes(lent);
 }
@@ -297,7 +329,6 @@ fn print_bytes(s: &[u8]) {
         io::print_hex(STDOUT_FILENO, wide(s[i]), 2);
         i += 1;
     }
-    end_line();
 }
 
 fn wide(x: u8) -> u64 {

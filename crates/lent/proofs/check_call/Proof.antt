@@ -13,7 +13,7 @@ use Rattle.lent.proofs.check_call.Tie as tie
 -- where the rule number has passed: the start
 module _ (c : tie.Else1) where
   abbrev start : tie.Start
-  start = c .before .before .before .before .before .before .before .before
+  start = c .before .before .before .before .before .before .before .before .before
 
   ruled : ruleCheck (start .args .rule) ≡ Done
   ruled = rule-passes _ (c .before .is-rule .ensures) (c .if1 .left)
@@ -31,19 +31,19 @@ check-lent-requires c κs =
     }
 
 returns : tie.Need-returns
-returns c = call-unruled _ _ _ _ _ _ _ _ (rule-stops _ (c .before .is-rule .ensures) (c .if1 .taken))
+returns c = call-unruled _ _ _ _ _ _ _ _ _ (rule-stops _ (c .before .is-rule .ensures) (c .if1 .taken))
 
 returns-2 : tie.Need-returns-2
 returns-2 c =
     let read = c .before .before .before .before .before .before .before .before .before in
-    call-refused _ _ _ _ _ _ _ (ruled (read .before .before .before .before)) _
+    call-refused _ _ _ _ _ _ _ _ (ruled (read .before .before .before .before)) _
     (sym (read .read-table .ensures .is) ∙ c .before .why .given .1)
 
 returns-3 : tie.Need-returns-3
 returns-3 c =
     let read = c .before .before .before .before .before .before .before .before .before .before in
     let told = c .before .before .enum-told .given .1 in
-    call-lent _ _ _ _ _ _ _ (ruled (read .before .before .before .before)) _
+    call-lent _ _ _ _ _ _ _ _ (ruled (read .before .before .before .before)) _
     (sym (read .read-table .ensures .is) ∙ told) (read .read-table .ensures .facts told) (c .check-lent .ensures)
 
 pub check-call-spec : {M : Type 1} → statement M

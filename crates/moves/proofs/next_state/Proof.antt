@@ -10,7 +10,7 @@ use borrow.Author.Needs.{needs}
 use Rattle.rules.specs.States.{is, inSelection, inExecution, ended}
 use Rattle.rules.specs.Table.{entry}
 use Rattle.rules.specs.Words.{word, holds, satisfiable}
-use Rattle.rules.specs.Step.{move, tooManyLost, childrenComplete, chosen, newState}
+use Rattle.rules.specs.Step.{moveBy, move, tooManyLost, childrenComplete, chosen, newState}
 use Rattle.rules.specs.declared.Condition.{Condition}
 use Rattle.rules.specs.declared.Condition.the-variants.{Filter, Setup, Suspend, Reactivate, Complete}
 use Rattle.rules.specs.declared.PlanState.{PlanState}
@@ -93,7 +93,7 @@ module _ (c : tie.After-from-byte) where
 
 -- the parent's new state: not begun, ended, in execution
 not-begun : (c : tie.Joined1) → asked (c .before .before) ≡ Inactive
-unfolding move
+unfolding moveBy
 not-begun c =
     let here = c .before .before in
     let known : dormant here ≡ true → asked here ≡ Inactive = λ d. leads here refl (rw d refl) in
@@ -112,7 +112,7 @@ under-ended :
     asked base
     ≡ cond (inSelection (base .from-byte .result)) Rejected
     (cond (inExecution (base .from-byte .result)) Aborted (base .from-byte .result))
-unfolding move
+unfolding moveBy
 under-ended c =
     leads (c .before .before .before .before .before .before) refl
     (simp (begun (c .before .before), ← c .before .is-ended .ensures, c .if3 .taken))
@@ -135,7 +135,7 @@ module _ (c : tie.Else3) where
 
 -- under a parent in execution, state by state
 inactive : (c : tie.After-orders) → asked (base (c .before .before .before)) ≡ cond (c .orders .result .considers) Considered Inactive
-unfolding move
+unfolding moveBy
 inactive c =
     let up = c .before .before .before in
     executing up (c .before .enum-told .given .1) (λ b g. simp (b, g, ← c .orders .ensures))
@@ -144,7 +144,7 @@ considered :
     (c : tie.After-holds) →
     let here = base (c .before .before .before) in
     asked here ≡ cond (c .holds .result) Possible (cond (not (hopeful here Filter)) Rejected Considered)
-unfolding move
+unfolding moveBy
 considered c = executing (c .before .before .before) (c .before .enum-told2 .given .1) (λ b g. simp (b, g, ← c .holds .ensures))
 
 not-filtered :
@@ -156,7 +156,7 @@ possible :
     (c : tie.After-holds2) →
     let here = base (c .before .before .before) in
     asked here ≡ cond (c .holds2 .result) Ready (cond (not (hopeful here Setup)) Rejected Possible)
-unfolding move
+unfolding moveBy
 possible c = executing (c .before .before .before) (c .before .enum-told3 .given .1) (λ b g. simp (b, g, ← c .holds2 .ensures))
 
 not-set-up :
@@ -165,7 +165,7 @@ not-set-up :
 not-set-up c = simp (possible (c .before .before), c .before .if9 .left, ← c .satisfiable2 .ensures)
 
 ready : (c : tie.After-orders2) → asked (base (c .before .before .before)) ≡ cond (c .orders2 .result .activates) Activated Ready
-unfolding move
+unfolding moveBy
 ready c =
     let up = c .before .before .before in
     executing up (c .before .enum-told4 .given .1) (λ b g. simp (b, g, ← c .orders2 .ensures))
@@ -177,7 +177,7 @@ activated :
     ≡ cond (c .before .holds3 .result || c .too-many-lost .result) Aborted
     (cond (is Suspended (parent here) || held here Suspend) Suspended
     (cond (held here Complete && complete here) Completed Activated))
-unfolding move
+unfolding moveBy
 activated c =
     let up = c .before .before .before .before in
     executing up (c .before .before .enum-told5 .given .1)
@@ -210,7 +210,7 @@ suspended :
     asked here
     ≡ cond (c .before .holds6 .result || c .too-many-lost2 .result) Aborted
     (cond (is Activated (parent here) && held here Reactivate) Activated Suspended)
-unfolding move
+unfolding moveBy
 suspended c =
     let up = c .before .before .before .before in
     executing up (c .before .before .enum-told6 .given .1)
@@ -227,7 +227,7 @@ over : (c : tie.At-match-keys7) → base (c .before) .from-byte .result ≡ aske
 over c = sym (executing (c .before) refl (λ b g. over-stays _ _ _ _ _ _ b g _ (c .match .keys7)))
 
 aborted : (c : tie.After-orders3) → asked (base (c .before .before .before)) ≡ cond (c .orders3 .result .retries) Considered Aborted
-unfolding move
+unfolding moveBy
 aborted c =
     let up = c .before .before .before in
     executing up (c .before .enum-told7 .given .1) (λ b g. simp (b, g, ← c .orders3 .ensures))

@@ -3,7 +3,7 @@ use mathlib.Core.Path.{sym, _∙_}
 use native.Mathlib.Omega.{arith}
 use borrow.Author.Needs.{needs}
 use Rattle.table.proofs.Reading.{room-for-all}
-use Rattle.demands.proofs.PassedCall.{words-in}
+use Rattle.demands.proofs.PassedCall.{lengths, words-in}
 use Rattle.lent.proofs.Calls.{may-move}
 use Rattle.step.proofs.Rests.{run-refused, run-done}
 use Rattle.step.proofs.rest.Statement.{statement}
@@ -11,23 +11,28 @@ use Rattle.step.proofs.rest.Tie as tie
 
 settle-requires : tie.Need-settle-requires
 settle-requires c κs =
-    let called = c .before .before .before .before .before .before .before .before .check-call .ensures in
-    let told = c .before .before .before .enum-told .given .1 in
+    let called = c .before .before .before .before .before .before .before .before .before .check-call .ensures in
+    let told = c .before .before .before .before .enum-told .given .1 in
     let facts = called .facts told in
     let done = sym (called .is) ∙ told in
-    (may-move _ _ _ _ _ _ _ done facts (omega (arith, facts .small)) (omega (arith, facts .small)), words-in _ _ _ _ done)
+    let long = lengths _ _ _ _ _ done in (
+      may-move _ _ _ _ _ _ _ _ done facts (omega (arith, facts .small)) (omega (arith, facts .small)),
+      (words-in _ _ _ _ _ done, long .2 ∙ sym (long .0)),
+    )
 
 returns : tie.Need-returns
 returns c =
     let called = c .before .before .before .before .before .before .check-call .ensures in
-    run-refused _ _ _ _ _ _ (sym (called .is) ∙ c .before .why .given .1)
+    let left = run-refused _ _ _ _ _ _ _ (sym (called .is) ∙ c .before .why .given .1) in
+    (left .0, (left .1, left .2))
 
 returns-2 : tie.Need-returns-2
 returns-2 c =
-    let settled = c .before .before .settle .ensures in
-    let told = c .before .before .before .before .before .before in
+    let settled = c .before .before .before .before in
+    let told = settled .before .before .before .before .before in
     let called = told .before .before .before .before .before .check-call .ensures in
-    run-done _ _ _ _ _ _ _ (sym (called .is) ∙ told .enum-told .given .1) (settled .0) (settled .1)
+    let left = run-done _ _ _ _ _ _ _ _ _ (sym (called .is) ∙ told .enum-told .given .1) (settled .settle .ensures) in
+    (left .0, (left .1, left .2))
 
 pub rest-spec : {M : Type 1} → statement M
 rest-spec =
@@ -43,6 +48,8 @@ rest-spec =
     (λ c. search needs)
     settle-requires
     (λ c. search needs)
+    (λ c. search needs)
     returns
+    (λ c. search needs)
     (λ c. search needs)
     returns-2)

@@ -15,26 +15,37 @@ use Rattle.children.specs.Sets.{Beyond, Surveyed}
 use Rattle.family.specs.StepFacts.{picksOf}
 use Rattle.lent.specs.Calls.{MayMove}
 use Rattle.pass.specs.Taken.{Taken}
-use Rattle.pass.proofs.StepFacts.{known-names, may-survey, step-facts, taken-small, taken-step, may-resurvey, surveyed-part}
+use Rattle.pass.proofs.Causes.{told-after-step, told-before-step, told-of-all}
+use Rattle.pass.proofs.StepFacts.{
+  known-names,
+  may-survey,
+  step-facts,
+  may-take,
+  taken-small,
+  taken-step,
+  may-resurvey,
+  surveyed-part,
+}
 use Rattle.step.proofs.Rests.{Running, running-none, running-next, moves-still, rests, moves}
 use Rattle.step.proofs.settle.Statement.{statement}
 use Rattle.step.proofs.settle.Tie as tie
 
 -- the turns so far
-record Turned (rule : ℕ) (t s w : List ℕ) (budget n k : ℕ) (states sets new : List ℕ) : Type 0 where
+record Turned (rule : ℕ) (t s w : List ℕ) (budget n k : ℕ) (states causes sets new : List ℕ) : Type 0 where
   sets-long : length sets ≡ 2304
   new-long : length new ≡ 256
   within : k ≤ budget
   long : length states ≡ n
-  running : Running rule t s w k states
+  told-long : length causes ≡ n
+  running : Running rule t s w k states causes
   surveyed : Surveyed t states n sets
 
 abbrev Inv-loop : tie.InvT-loop
-Inv-loop rule table ranks names states₀ words budget n sets₀ picks new₀ k₀ states sets new k =
-    Turned rule table states₀ words budget n k states sets new
+Inv-loop rule table ranks names states₀ words causes₀ budget n sets₀ picks new₀ k₀ states causes sets new k =
+    Turned rule table states₀ words budget n k states causes sets new
 
 abbrev μ-loop : tie.MeasureT-loop
-μ-loop rule table ranks names states₀ words budget n sets₀ picks new₀ k₀ states sets new k = budget - k
+μ-loop rule table ranks names states₀ words causes₀ budget n sets₀ picks new₀ k₀ states causes sets new k = budget - k
 
 -- the plans are few
 few : {t s w ranks names : List ℕ} → MayMove t s w ranks names → length s ≤ 256
@@ -42,40 +53,51 @@ few moves = omega (arith, moves .passes .long, tree _ (passes _ (moves .prepared
 
 survey-requires : tie.Need-survey-requires Inv-loop μ-loop
 survey-requires c κs =
-    let moves = c .before .before .before .before .before .before .before .pre .0 in
+    let moves = c .before .before .before .before .before .before .before .before .pre .0 in
     let most = few moves in
     may-survey _ _ _ _ _ moves _ (moves .passes .long) (replicate 2304 0) (omega arith)
     (λ i l. getD-replicate {A = ℕ} 2304 i 0 0 (omega arith))
 
 take-picks-requires : tie.Need-take-picks-requires Inv-loop μ-loop
 take-picks-requires c κs =
-    let moves = c .before .before .before .before .before .before .before .before .before .before .pre .0 in
+    let moves = c .before .before .before .before .before .before .before .before .before .before .before .pre .0 in
     (omega (arith, moves .words, moves .passes .long), omega (arith, few moves))
+
+tell-causes-requires : tie.Need-tell-causes-requires Inv-loop μ-loop
+tell-causes-requires c κs =
+    let start = c .before .before .before .before .before .before .before .before .before .before .before .before .before .before .before in
+    let moves = start .pre .0 in
+    let whole = moves .passes .long in
+    may-take _ _ _ _ _ moves _ whole (now (start .args .states)) _ (omega arith) (start .pre .1 .1) .0
 
 loop-holds : tie.Need-loop-holds Inv-loop μ-loop
 loop-holds c =
-    let survey = c .before .before .before .before .survey .ensures in
+    let start = c .before .before .before .before .before .before .before .before .before .before .before .before .before .before .before .before .before .before in
+    let survey = c .before .before .before .before .before .before .before .before .before .survey .ensures in
+    let told = c .before .before .tell-causes .ensures in
+    let none = told ∙ told-before-step _ _ _ _ in
     record {
       sets-long = survey .1 .long;
       new-long = search needs;
       within = omega arith;
       long = refl;
-      running = running-none _ _ _ _;
+      told-long = ap length told ∙ told-of-all _ _ _ _ _ ∙ start .pre .1 .1;
+      running = running-none _ _ _ _ _ (none ∙ ap (λ (k : ℕ). replicate k 0) (start .pre .1 .1 ∙ start .pre .0 .passes .long));
       surveyed = survey .0;
     }
 
 -- at the head of a turn: the start, the picks, and that the plans may move
 abbrev taken-of : tie.At-loop Inv-loop μ-loop → tie.After-take-picks Inv-loop μ-loop
-taken-of c = c .before .before
+taken-of c = c .before .before .before .before .before .before .before
 
 abbrev start-of : tie.At-loop Inv-loop μ-loop → tie.Start Inv-loop μ-loop
-start-of c = taken-of c .before .before .before .before .before .before .before .before .before .before .before
+start-of c = taken-of c .before .before .before .before .before .before .before .before .before .before .before .before
 
 moves-at :
     (c : tie.At-loop Inv-loop μ-loop)
     → MayMove (now (start-of c .args .table)) (c .loop .states) (now (start-of c .args .words)) (now (start-of c .args .ranks))
     (now (start-of c .args .names))
-moves-at c = moves-still _ _ _ _ _ _ (start-of c .pre .0) (start-of c .pre .1) _ _ (c .loop .inv .running)
+moves-at c = moves-still _ _ _ _ _ _ (start-of c .pre .0) (start-of c .pre .1 .0) _ _ _ (c .loop .inv .running)
 
 advance-requires : tie.Need-advance-requires Inv-loop μ-loop
 advance-requires c κs =
@@ -111,7 +133,7 @@ returns c =
     let at = advanced .before .before .before .before .before in
     let inv = at .loop .inv in
     let next = is-step at (taken-of at .take-picks .ensures .0) (advanced .advance .ensures .0) in
-    rests _ _ _ _ _ _ (inv .running) _ (inv .within)
+    rests _ _ _ _ _ _ _ (inv .running) _ (inv .within)
     (tested _ _ _ _ _ (inv .long) next (c .before .unchanged .ensures) ∙ c .if1 .taken)
 
 returns-2 : tie.Need-returns-2 Inv-loop μ-loop
@@ -121,7 +143,7 @@ returns-2 c =
     let at = advanced .before .before .before .before .before in
     let inv = at .loop .inv in
     let next = is-step at (taken-of at .take-picks .ensures .0) (advanced .advance .ensures .0) in
-    moves _ _ _ _ _ _ (inv .running) _ (c .if2 .taken)
+    moves _ _ _ _ _ _ _ (inv .running) _ (c .if2 .taken)
     (tested _ _ _ _ _ (inv .long) next (changed .before .unchanged .ensures) ∙ changed .if1 .left)
 
 resurvey-requires : tie.Need-resurvey-requires Inv-loop μ-loop
@@ -133,33 +155,39 @@ resurvey-requires c κs =
     let first = start-of at .pre .0 in
     let next = is-step at (taken-of at .take-picks .ensures .0) (advanced .advance .ensures .0) in
     let moved =
-    running-next _ _ _ _ _ _ (inv .running) _
+    running-next _ _ _ _ _ _ _ (inv .running) _ _
     (tested _ _ _ _ _ (inv .long) next (changed .before .unchanged .ensures) ∙ changed .if1 .left)
-    next
+    next refl
     in
-    may-resurvey _ _ _ _ _ (moves-at at) _ (moves-still _ _ _ _ _ _ first (start-of at .pre .1) _ _ moved) _ (first .passes .long) _
+    may-resurvey _ _ _ _ _ (moves-at at) _ (moves-still _ _ _ _ _ _ first (start-of at .pre .1 .0) _ _ _ moved) _ (first .passes .long) _
     (inv .surveyed) (omega (arith, few first, inv .sets-long))
 
 loop-again : tie.Need-loop-again Inv-loop μ-loop
 loop-again c =
-    let taken-over = c .before .before .take-over .ensures in
-    let resurvey = c .before .before .before .before .before .before .resurvey .ensures in
-    let going = c .before .before .before .before .before .before .before .before .before .before in
+    let taken = c .before .before .before .before .take-step .ensures in
+    let resurvey = c .before .before .before .before .before .before .before .before .before .resurvey .ensures in
+    let going = c .before .before .before .before .before .before .before .before .before .before .before .before .before in
     let changed = going .before in
     let advanced = changed .before .before .before .before .before in
     let at = advanced .before .before .before .before .before in
     let inv = at .loop .inv in
+    let start = start-of at in
+    let whole = start .pre .0 .passes .long in
     let next = is-step at (taken-of at .take-picks .ensures .0) (advanced .advance .ensures .0) in
+    let why =
+    taken .1
+    ∙ told-after-step _ _ _ _ (tree _ (passes _ (start .pre .0 .prepared .done))) _ _ _ whole (inv .told-long ∙ whole) next in
     record {
       sets-long = resurvey .1 .long ∙ inv .sets-long;
       new-long = advanced .advance .ensures .1 .long ∙ inv .new-long;
       within = omega (arith, inv .within, going .if2 .left);
-      long = ap length taken-over ∙ length-take-le _ _ (omega (arith, inv .long, inv .new-long, few (start-of at .pre .0))) ∙ inv .long;
+      long = ap length (taken .0) ∙ length-take-le _ _ (omega (arith, inv .long, inv .new-long, few (start .pre .0))) ∙ inv .long;
+      told-long = ap length (taken .1) ∙ told-of-all _ _ _ _ _ ∙ inv .told-long;
       running =
-          running-next _ _ _ _ _ _ (inv .running) _
+          running-next _ _ _ _ _ _ _ (inv .running) _ _
           (tested _ _ _ _ _ (inv .long) next (changed .before .unchanged .ensures) ∙ changed .if1 .left)
-          (taken-over ∙ rw (inv .long) next);
-      surveyed = surveyed-part _ _ _ _ _ _ (inv .long) taken-over (resurvey .0);
+          (taken .0 ∙ rw (inv .long) next) why;
+      surveyed = surveyed-part _ _ _ _ _ _ (inv .long) (taken .0) (resurvey .0);
     }
 
 -- after the pass the states have room among the new ones
@@ -175,9 +203,13 @@ new-room c moved =
     let most = few (start-of (loop-of c) .pre .0) in
     (omega (arith, moved .long, inv .new-long, inv .long, most), omega (arith, moved .long, inv .new-long, most))
 
+-- the causes are as many as there was room for
+told-room : (c : tie.At-loop Inv-loop μ-loop) → length (c .loop .causes) ≡ length (now (start-of c .args .causes))
+told-room c = c .loop .inv .told-long ∙ sym (start-of c .pre .1 .1)
+
 add-k : tie.Need-add-k Inv-loop μ-loop
 add-k c =
-    let going = c .before .before .before .before .before .before .before .before .before .before in
+    let going = c .before .before .before .before .before .before .before .before .before .before .before .before .before in
     let at = loop-of (going .before .before .before .before .before .before) in
     omega (arith, going .if2 .left, at .loop .inv .within, start-of at .fits .budget)
 
@@ -189,10 +221,13 @@ array-share-prefix-new c =
 slice-aggregate-resurvey : tie.Need-slice-aggregate-resurvey Inv-loop μ-loop
 slice-aggregate-resurvey c = sym (length-take-le _ _ (array-share-prefix-new (c .before)))
 
-take-over-requires : tie.Need-take-over-requires Inv-loop μ-loop
-take-over-requires c κs =
-    let advanced = c .before .before .before .before .before .before .before .before .before .before .before .before .before in
-    new-room advanced (advanced .advance .ensures .1) .0
+take-step-requires : tie.Need-take-step-requires Inv-loop μ-loop
+take-step-requires c κs =
+    let advanced = c .before .before .before .before .before .before .before .before .before .before .before .before .before .before in
+    let at = loop-of advanced in
+    let start = start-of at in
+    may-take _ _ _ _ _ (moves-at at) _ (start .pre .0 .passes .long) _ _ (new-room advanced (advanced .advance .ensures .1) .1)
+    (at .loop .inv .told-long)
 
 pub settle-spec : {M : Type 1} → statement M
 settle-spec =
@@ -204,6 +239,7 @@ settle-spec =
     survey-requires
     (λ c. search needs)
     take-picks-requires
+    tell-causes-requires
     loop-holds
     (λ c. search needs)
     (λ c. search needs)
@@ -212,15 +248,17 @@ settle-spec =
     (λ c. search needs)
     (λ c κs. new-room (c .before .before .before) (c .before .before .before .advance .ensures .1) .0)
     (λ c. search needs)
+    (λ c. told-room (loop-of (c .before .before .before .before .before)))
     returns
     (λ c. search needs)
+    (λ c. told-room (loop-of (c .before .before .before .before .before .before)))
     returns-2
     array-share-prefix-new
     slice-aggregate-resurvey
     (λ c. search needs)
     resurvey-requires
     (λ c. search needs)
-    take-over-requires
+    take-step-requires
     add-k
     (λ c. omega arith)
     loop-again)

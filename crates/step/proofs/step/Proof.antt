@@ -44,13 +44,13 @@ counted t n e good = e ∙ ap (λ (b : Bool). cond b 0 (planCount t)) (le-ltb _ 
 
 step-within-requires : tie.Need-step-within-requires
 step-within-requires c κs =
-    let test = c .before .before .before .before .before .before in
+    let test = c .before .before .before .before .before .before .before in
     let told = test .before .plans-told .ensures in
     work-space _ 16 (λ good. omega (arith, test .if1 .taken, counted _ _ told good)) 32 144 (omega arith) (omega arith)
 
 step-within-requires-2 : tie.Need-step-within-requires-2
 step-within-requires-2 c κs =
-    let test = c .before .before .before .before .before .before in
+    let test = c .before .before .before .before .before .before .before in
     let told = test .before .before .plans-told .ensures in
     work-space _ 64 (λ good. omega (arith, test .if2 .taken, counted _ _ told good)) 128 576 (omega arith) (omega arith)
 
@@ -75,6 +75,7 @@ step-spec =
     (λ c. search needs)
     (λ c. search needs)
     (λ c. search needs)
+    (λ c. search needs)
     step-within-requires-2
     (λ c. search needs)
     (λ c. search needs)
@@ -83,6 +84,8 @@ step-spec =
     (λ c. search needs)
     (λ c. search needs)
     (λ c. search needs)
+    (λ c. search needs)
     step-within-requires-3
+    (λ c. search needs)
     (λ c. search needs)
     (λ c. search needs))

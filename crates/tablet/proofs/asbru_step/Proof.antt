@@ -7,9 +7,9 @@ use Rattle.tablet.proofs.asbru_step.Tie as tie
 
 returns : tie.Need-returns
 returns c =
-    let run = c .before .before .before .step .ensures in
+    let run = c .before .before .before .before .before .step .ensures in
     (c .pack-outcome .ensures ∙ ap packedOutcome (run .0), run .1)
 
 pub asbru-step-spec : {M : Type 1} → statement M
 asbru-step-spec =
-    tie.close (tie.spec (λ c κs. search needs) (λ c κs. search needs) (λ c. search needs) returns)
+    tie.close (tie.spec (λ c κs. search needs) (λ c κs. search needs) (λ c. search needs) (λ c. search needs) returns)

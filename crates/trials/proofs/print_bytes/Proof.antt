@@ -24,5 +24,4 @@ print-bytes-spec =
     (λ c. omega arith)
     (λ c. omega arith)
     (λ c. omega arith)
-    (λ c κs. omega arith)
     (λ c. omega arith))
