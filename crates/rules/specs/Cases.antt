@@ -254,7 +254,7 @@ pub data Row : Type 0 where
   rowAccepts : List ℕ → ℕ → Row
   -- a step and a run refused, with states and causes left as they were: rules, table, states, words, number, plan
   rowRefuses : List ℕ → List ℕ → ℕ → List ℕ → ℕ → ℕ → Row
-  -- states, words and causes refused by 10 under a table, the causes left as they were
+  -- states, words and room for causes refused by 10 under a table, by the step and the run, all left as they were
   rowLengths : List ℕ → List ℕ → List ℕ → List ℕ → Row
   -- document 02 (ix): one step that is done: rules, table, states, words, new states, causes
   rowWhy : List ℕ → List ℕ → ℕ → List ℕ → ℕ → ℕ → Row
@@ -335,12 +335,17 @@ holdsIn (rowRefuses rules t from w number plan) =
     && same (stepStates rule t s w blank ++ runStates rule t s w blank 8) (s ++ s)
     && same (stepCauses rule t s w blank ++ runCauses rule t s w blank 8) (blank ++ blank)) rules
 holdsIn (rowLengths t s w c) =
-    all (λ rule. isRefused 10 0 (stepAnswer rule t s w c) && same (stepCauses rule t s w c) c) both
-holdsIn (rowWhy rules t from w to why) =
-    let s : List ℕ = states from in
     all (λ rule.
-    isDone (stepAnswer rule t s w blank) && same (stepStates rule t s w blank) (states to)
-    && same (stepCauses rule t s w blank) (states why)) rules
+    isRefused 10 0 (stepAnswer rule t s w c) && isRefusedRun 10 0 (runAnswer rule t s w c 8)
+    && same (stepStates rule t s w c ++ runStates rule t s w c 8) (s ++ s)
+    && same (stepCauses rule t s w c ++ runCauses rule t s w c 8) (c ++ c)) both
+holdsIn (rowWhy rules t from w to why) =
+    let n : ℕ = planCount t in
+    let s : List ℕ = manyStates n from in
+    let c : List ℕ = replicate n 9 in
+    all (λ rule.
+    isDone (stepAnswer rule t s w c) && same (stepStates rule t s w c) (manyStates n to)
+    && same (stepCauses rule t s w c) (manyStates n why)) rules
 holdsIn (rowLast rules t from w budget to why) =
     let s : List ℕ = states from in
     all (λ rule. same (runStates rule t s w blank budget) (states to) && same (runCauses rule t s w blank budget) (states why)) rules
@@ -667,9 +672,9 @@ ourRefusals =
     ∷ rowRefuses both (take 19 T1 ++ 6 ∷ drop 20 T1) 000 idle 8 1
     ∷ rowRefuses both (take 18 T1 ++ 4 ∷ drop 19 T1) 000 idle 8 1
     ∷ rowRefuses both (tableOf 2 5 0 0x20 (leaves 0x20 1)) 000 idle 8 0
-    -- 10: more plans than states; that alone; a word too few alone
+    -- 10: more plans than states, words and causes; than states alone; a word too few alone; more in `ourCauses`
     ∷ rowRefuses both (star 3) 000 idle 10 0
-    ∷ rowRefuses both (star 3) 000 (idle ++ 0 ∷ 0 ∷ 0 ∷ 0 ∷ []) 10 0
+    ∷ rowLengths (star 3) (states 000) (idle ++ 0 ∷ 0 ∷ 0 ∷ 0 ∷ []) (replicate 4 9)
     ∷ rowRefuses both T1 000 (take 8 idle) 10 0
     -- 11: no code; a child that does not suit a parent that is Inactive, Rejected, Completed or Suspended; a child that a sequential
     -- plan has not come to
@@ -885,9 +890,10 @@ ourWords =
 
 -- document 02 (ix): why plans moved
 ourCauses : List Row
-unfolding T1 T1With chain words idle
+unfolding T1 T1With T1Waits node chain waiting tableOf entryUnder leaves three star bytes words idle
 ourCauses =
-    -- ordered, its own filter, its own setup, ordered; then its children likewise, of which it activates one; which completes; and it does
+    -- ordered, its own filter, its own setup, ordered; then its children likewise, of which it activates one, or the one picked; which
+    -- completes; and it does
     rowWhy both T1 000 idle 100 100
     ∷ rowWhy both T1 100 idle 200 200
     ∷ rowWhy both T1 200 idle 300 200
@@ -896,45 +902,76 @@ ourCauses =
     ∷ rowWhy both T1 411 idle 422 022
     ∷ rowWhy both T1 422 idle 433 022
     ∷ rowWhy both T1 433 idle 443 010
+    ∷ rowWhy both T1 433 (words (2 ^ 24) 0 0) 434 001
     ∷ rowWhy both T1 443 (words 0 32 0) 463 020
     ∷ rowWhy both T1 466 idle 666 200
-    -- Rejected by its own filter, and by its own setup
+    -- nobody moves: ended ones that nobody retries, a filter and a setup that wait, Suspended ones that are not reactivated
+    ∷ rowWhy both (three 4) 4678 (replicate 16 0) 4678 0000
+    ∷ rowWhy both (tableOf 3 4 0 0x20 (leaves 3 2)) 412 (words 0 64 128) 412 000
+    ∷ rowWhy both (T1With 0 12 2 32) 553 idle 553 000
+    -- Rejected by its own filter, the root's too, and by its own setup; also under a Suspended parent, under which they go on as well
     ∷ rowWhy both (T1With 0 0 2 33) 411 idle 482 022
+    ∷ rowWhy both (T1With 0 1 2 32) 100 idle 800 200
     ∷ rowWhy both (T1With 0 0 2 34) 422 idle 483 022
-    -- the root: too many children lost; its own abort; both, and its own abort is told; of a Suspended one the same; its children, where
-    -- they move, are forced
+    ∷ rowWhy both (tableOf 3 4 0 0x0C (leaves 3 2)) 512 idle 588 022
+    ∷ rowWhy both (tableOf 3 4 0 0x0C (leaves 3 2)) 512 (words 0 65 130) 523 022
+    -- the root: too many children lost, its abort being absent, its bit set, or present; its own abort; both, and its own abort is told; of
+    -- a Suspended one the same; its children, where they move, are forced
     ∷ rowWhy both T1 473 idle 778 304
+    ∷ rowWhy both T1 473 (words 16 0 0) 778 304
+    ∷ rowWhy both (T1With 0 16 2 32) 473 idle 778 304
     ∷ rowWhy both (T1With 0 16 2 32) 443 (words 16 0 0) 778 244
     ∷ rowWhy both (T1With 0 16 2 32) 473 (words 16 0 0) 778 204
     ∷ rowWhy both (T1With 0 16 2 32) 400 (words 16 0 0) 700 200
+    ∷ rowWhy both (T1With 0 4 2 32) 573 (words 16 0 0) 778 304
     ∷ rowWhy both (T1With 0 20 2 32) 573 idle 778 304
     ∷ rowWhy both (T1With 0 20 2 32) 553 (words 16 0 0) 778 244
     ∷ rowWhy both (T1With 0 20 2 32) 573 (words 16 0 0) 778 204
-    -- own abort under a parent that ends in the same step: forced
+    -- its abort overridden; manual and not triggered
+    ∷ rowWhy both (take 14 (T1With 0 16 2 32) ++ 16 ∷ drop 15 (T1With 0 16 2 32)) 443 (words (2 ^ 18) 0 0) 778 244
+    ∷ rowWhy both (take 13 (T1With 0 16 2 32) ++ 16 ∷ drop 14 (T1With 0 16 2 32)) 473 (words 16 0 0) 778 304
+    -- below the root: its own abort under a parent that is suspended now, and that is and stays so; children lost
+    ∷ rowWhy both (T1With 0 4 2 48) 443 (words 4 16 0) 573 220
+    ∷ rowWhy both (T1With 0 12 2 48) 553 (words 0 16 0) 573 020
+    ∷ rowWhy both (waiting 0 0) 447 idle 477 030
+    -- own abort under a parent that ends in the same step: forced; so is all under one that completes
     ∷ rowWhy both (T1With 0 16 2 48) 443 (words 16 16 0) 778 244
-    -- the root's own suspension forces its child's, also where the child's own suspend holds; and that alone
+    ∷ rowWhy both (three 4) 4124 (bytes 32 ++ replicate 12 0) 6887 2444
+    -- 'not child 0' fails though no child is lost
+    ∷ rowWhy both (T1Waits 0 2 (node 1 1 0 ++ node 0 0 0)) 433 idle 788 344
+    -- the root's own suspension forces its child's, also where the child's own suspend holds; the child's own alone
     ∷ rowWhy both (T1With 0 4 2 32) 443 (words 4 0 0) 553 240
     ∷ rowWhy both (T1With 0 4 2 36) 443 (words 4 4 0) 553 240
     ∷ rowWhy both (T1With 0 4 2 36) 443 (words 0 4 0) 453 020
     -- reactivated, both by their own condition
     ∷ rowWhy both (T1With 0 4 2 32) 553 idle 443 220
-    -- retried: ordered; what stood under it is reset, if it was not Inactive before
+    -- retried: ordered; what stood under it is reset, if it was not Inactive before, and what stood under that
     ∷ rowWhy both (T1With 1 0 1 32) 473 idle 413 010
     ∷ rowWhy both chain 477 idle 410 014
     ∷ rowWhy both chain 476 idle 410 014
     ∷ rowWhy both chain 478 idle 410 014
     ∷ rowWhy both chain 470 idle 410 010
-    -- a run leaves its last step's causes, rested or not, and not those of the step that it only tried; all 0 if it took none
+    ∷ rowWhy both (tableOf 4 4 1 0x20 (entryUnder 0 4 0 (entryUnder 1 4 0 (entryUnder 2 0 0 [])))) 4766 (replicate 16 0) 4100 0144
+    -- where the rules part
+    ∷ rowWhy rule1 (T1With 1 0 2 32) 473 idle 778 304
+    ∷ rowWhy rule2 (T1With 1 0 2 32) 473 idle 413 010
+    ∷ rowLast rule1 (T1With 1 0 2 32) 473 idle 8 778 304
+    ∷ rowLast rule2 (T1With 1 0 2 32) 473 idle 1 413 010
+    -- a run leaves its last step's causes, rested within its budget, at its end or not, and not those of the step that it only tried; all 0
+    -- if it took none
+    ∷ rowLast both T1 000 idle 9 443 010
     ∷ rowLast both T1 000 idle 8 443 010
     ∷ rowLast both T1 000 idle 7 433 022
     ∷ rowLast both T1 443 idle 8 443 000
     ∷ rowLast both T1 000 idle 0 000 000
-    -- 10: room for too few causes, for too many, for none; before 11 and 12. Of states and words alone
+    -- 10: room for too few causes, for too many, for none; before 11 and 12, and behind 17. Of states and words alone
     ∷ rowLengths T1 (states 000) idle (9 ∷ 9 ∷ [])
     ∷ rowLengths T1 (states 000) idle (9 ∷ 9 ∷ 9 ∷ 9 ∷ [])
     ∷ rowLengths T1 (states 000) idle []
     ∷ rowLengths T1 (states 444) (words 0 1 0) (9 ∷ 9 ∷ [])
+    ∷ rowRefuses (0 ∷ 3 ∷ []) (star 3) 000 idle 17 0
     ∷ rowLengths T1 (9 ∷ states 000) idle (9 ∷ 9 ∷ 9 ∷ [])
+    ∷ rowLengths T1 (0 ∷ 0 ∷ []) idle (9 ∷ 9 ∷ 9 ∷ [])
     ∷ rowLengths T1 (states 000) (0 ∷ idle) (9 ∷ 9 ∷ 9 ∷ [])
     ∷ []
 

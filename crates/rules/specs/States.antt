@@ -1,6 +1,6 @@
 -- Document 01, 'States': the nine states, their codes and the three groups; and of document 02 (ix) the codes of the causes. Assumes
 -- nothing.
--- `code` is the one place of the definitions with these numbers; `PlanState::to_byte` holds it to the constants of the source.
+-- `code` is the one place of the definitions with the states' numbers; `PlanState::to_byte` holds it to the constants of the source.
 use Prim.Native.Nat.{ℕ}
 use mathlib.Core.Bool.{Bool, false, _||_}
 use mathlib.Core.List.{List, [], _∷_}
@@ -71,7 +71,7 @@ ended state = oneOf (Completed ∷ Aborted ∷ Rejected ∷ []) state
 abbrev pub hasRun : PlanState → Bool
 hasRun state = oneOf (Activated ∷ Suspended ∷ Completed ∷ Aborted ∷ []) state
 
--- why a plan moved: ordered by the parent, its own condition, children lost, forced by the parent's state
+-- why a plan moved: unmoved, ordered by the parent, its own condition, children lost, forced by the parent's state
 abbrev pub causeCode : Cause → ℕ
 causeCode Unmoved = 0
 causeCode Ordered = 1

@@ -1,5 +1,5 @@
 -- `cause_of_move` meets its contract: test by test. Where one has failed, what is left is said. Assumes nothing.
-use mathlib.Core.Path.{_≡_, refl}
+use mathlib.Core.Path.{_≡_, refl, sym}
 use mathlib.Core.Bool.{Bool, cond, not, _&&_, _||_}
 use borrow.Author.Needs.{needs}
 use Rattle.rules.specs.States.{is, inExecution}
@@ -57,10 +57,10 @@ cause-of-move-spec =
     (λ c κs. search needs)
     (λ c κs. search needs)
     (λ c κs. search needs)
-    (λ c. simp (forced c))
+    (λ c. sym (forced c))
     (λ c κs. search needs)
     (λ c κs. search needs)
-    (λ c. simp (ordered c))
+    (λ c. sym (ordered c))
     (λ c κs. search needs)
     (λ c. simp (not-ordered (c .before .before), ← c .before .is5 .ensures, c .if3 .taken))
     (λ c. simp (not-ordered (c .before .before), ← c .before .is5 .ensures, c .if3 .left)))
