@@ -1,5 +1,5 @@
-// What a call lends: checks 10 to 12 of documents 01 and 02, of its states and words, behind those of its rule number and its table.
-// Each check costs O(n) for n plans; nothing is allocated. Assumes nothing.
+// What a call lends: checks 10 to 12 of documents 01 and 02, of its states, words and room for causes, behind those of its rule number and
+// its table. Each check costs O(n) for n plans; nothing is allocated. Assumes nothing.
 ghost use mathlib.Core.Path.{_≡_};
 ghost use mathlib.Core.Bool.{_||_};
 ghost use lib.Dec.{eqb};
