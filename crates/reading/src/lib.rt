@@ -1,6 +1,8 @@
 // A plan's entry, its parent and its word, and numbers, as they lie in slices of bytes.
 // Every function costs O(1). Assumes that the bytes lie in the slice, as who calls has looked at its length, but for `byte_at` and
 // `u16_within`.
+#![tactic(auto)]
+
 ghost use Rattle.std.specs.Prelude.{◌≡◌, ◌+◌, ◌*◌, ◌<◌, ◌≤◌, length};
 ghost use Rattle.rules.specs.Bytes.{byte_at, u16_at, u32_at};
 ghost use Rattle.rules.specs.Table.{plan_count, entry, parent, body_of, is_body};

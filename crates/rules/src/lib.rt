@@ -1,5 +1,7 @@
 // What a plan, its table entry and its input word are, and what every call answers: the words of documents 01 and 02.
 // The rules themselves are the definitions of specs/; each function here meets one of them. Assumes nothing.
+#![tactic(auto)]
+
 ghost use Rattle.std.specs.Prelude.{◌≡◌, ◌<◌, leb};
 ghost use Rattle.std.specs.Int.Count.{ones};
 ghost use Rattle.rules.specs.Bytes.{is_set};
