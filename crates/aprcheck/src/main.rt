@@ -2,6 +2,8 @@
 // `report` is the whole of it on slices: its contract says that the line is that of a verdict which the definitions permit.
 // Where standard input cannot be read to its end there is no input, and so no line: `main` says so on standard error.
 // Assumes what crate `text` does of the system's read and write.
+#![tactic(auto)]
+
 ghost use Rattle.std.specs.Prelude.{◌≡◌, ◌<◌, ◌≤◌, length, take};
 ghost use Rattle.io.specs.Counts.{IsPrefixLen};
 ghost use Rattle.rules.specs.Table.{plan_count};

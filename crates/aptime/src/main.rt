@@ -2,6 +2,8 @@
 // annotation or still can, and the annotation's normal form. `report` is the whole of it on slices: its contract fixes every printed byte.
 // Where standard input cannot be read to its end there is no input, and so no answer: `main` says so on standard error.
 // Assumes what crate `text` does of the system's read and write.
+#![tactic(auto)]
+
 ghost use Rattle.std.specs.Prelude.{◌≡◌, ◌<◌, ◌≤◌, length, take};
 ghost use Rattle.io.specs.Counts.{IsPrefixLen};
 ghost use Rattle.aptime.specs.Lines as Lines;

@@ -2,6 +2,8 @@
 // becomes 1. A table that is refused leaves standard output empty, and standard error has the line for the refusal. `report` is the whole
 // of it on slices: its contract fixes every byte of both. Where standard input cannot be read to its end there is no table: `main` says so
 // on standard error. Assumes what crate `text` does of the system's read and write.
+#![tactic(auto)]
+
 ghost use Rattle.std.specs.Prelude.{◌≡◌, ◌≤◌, length};
 ghost use Rattle.rules.specs.WaitFor.{first_version};
 ghost use Rattle.versions.specs.Versions.{move_answer, move_output};

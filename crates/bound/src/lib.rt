@@ -1,5 +1,7 @@
 // How long a run can go on, document 02 (viii): the figure, where the premises hold under which it is proved. Costs O(1) for each plan and
 // node of the table; nothing is allocated. Assumes nothing.
+#![tactic(auto)]
+
 ghost use Rattle.std.specs.Prelude.{ℕ, ◌≡◌, cond, ◌&&◌, ◌||◌};
 ghost use Rattle.rules.specs.Lists.{some_below};
 ghost use Rattle.rules.specs.Table.{plan_count, retry_aborted};

@@ -1,5 +1,7 @@
 // Sets of children as 64-bit words, a bit for each rank: what each plan's children are at, found in one pass over the plans.
 // Every function here costs O(n) for n plans. Assumes a table whose plans have earlier parents: check 6 sees to it.
+#![tactic(auto)]
+
 ghost use Rattle.std.specs.Prelude.{◌≡◌, ℕ, ◌+◌, ◌*◌, ◌^◌, ◌<◌, ◌≤◌, cond, length};
 ghost use Rattle.children.specs.Sets.{Rooted, Beyond, Empty, Codes, Ranked, Narrow, Collected, Surveyed};
 ghost use Rattle.rules.specs.Bytes.{byte_at};

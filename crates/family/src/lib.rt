@@ -1,6 +1,8 @@
 // What a plan is told by its family, from the words of children by state: what its parent orders it to do, and whether too many of its own
 // children are lost or they let it complete. Document 01, 'One step'. Every function here costs O(1); where a plan waits for a formula,
 // what asks it costs O(its nodes). Assumes a table that has passed its checks and the words of its plans' children (`StepFacts`).
+#![tactic(auto)]
+
 ghost use Rattle.std.specs.Prelude.{◌≡◌, ◌+◌, ◌*◌, ◌<◌, ◌≤◌, length, get_or, [], ◌∷◌};
 ghost use Rattle.rules.specs.States.{code};
 ghost use Rattle.rules.specs.Table.{plan_count};

@@ -1,5 +1,7 @@
 // Wait-for: whether it holds of a set of a plan's children, by the plan's wait number or by its formula. A number is found once, when the
 // table is read, since most plans ask for one; a formula is evaluated in O(its nodes). Assumes a table that has passed check 22.
+#![tactic(auto)]
+
 ghost use Rattle.std.specs.Prelude.{◌≡◌, true, false, ◌+◌, ◌*◌, ◌<◌, ◌≤◌, length, get_or, eqb};
 ghost use Rattle.rules.specs.Bytes.{is_set};
 ghost use Rattle.rules.specs.WaitFor.{first_version, node_count};

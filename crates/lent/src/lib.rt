@@ -1,5 +1,7 @@
 // What a call lends: checks 10 to 12 of documents 01 and 02, of its states, words and room for causes, behind those of its rule number and
 // its table. Each check costs O(n) for n plans; nothing is allocated. Assumes nothing.
+#![tactic(auto)]
+
 ghost use Rattle.std.specs.Prelude.{◌≡◌, ◌||◌, eqb};
 ghost use Rattle.rules.specs.Words.{pick_allowed, contradicts};
 ghost use Rattle.rules.specs.Step.{done};

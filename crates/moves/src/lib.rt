@@ -1,6 +1,8 @@
 // The next state of one plan: document 01's list, 'One step', line by line. Beside its parent's new state and its own conditions it reads
 // what its family tells it (crate family). And, once it has moved, why it did. Every function here costs O(1); where a plan waits for a
 // formula, what asks it costs O(its nodes). Assumes a table that has passed its checks and the words of its plans' children (`MoveFacts`).
+#![tactic(auto)]
+
 ghost use Rattle.std.specs.Prelude.{◌≡◌, ◌+◌, ◌*◌, ◌<◌, ◌≤◌, length};
 ghost use Rattle.rules.specs.Table.{parent, entry};
 ghost use Rattle.rules.specs.Words.{word};

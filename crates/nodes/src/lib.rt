@@ -1,5 +1,7 @@
 // Checks the formulas of a table of version 2: 22, and 9 of the numbers that they ask for. Document 02 (v).
 // All of it costs O(plans + nodes). Assumes a table that has passed the checks before 22.
+#![tactic(auto)]
+
 ghost use Rattle.std.specs.Prelude.{◌≡◌, false, cond, ◌||◌, ℕ, ◌+◌, ◌*◌, ◌<◌, ◌≤◌, leb, length, get_or, set};
 ghost use Rattle.rules.specs.Bytes.{byte_at};
 ghost use Rattle.rules.specs.Lists.{least, some_below};

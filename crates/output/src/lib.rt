@@ -1,5 +1,7 @@
 // Puts bytes into a lent slice, a piece behind the other: each contract says every byte of the slice, also those past the new end, which
 // stay. Every function costs O(1) a byte that it puts. Assumes that there is room.
+#![tactic(auto)]
+
 ghost use Rattle.std.specs.Prelude.{[], ◌∷◌, ◌+◌, ◌<◌, ◌≤◌, length};
 ghost use Rattle.output.specs.Output.{Appended};
 

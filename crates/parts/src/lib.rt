@@ -1,5 +1,7 @@
 // One step of a record: its words and states as parts of the record, check 12 of its words, and the picks that explain the states it shows
 // if any do. Each function costs O(n) for n plans at most; nothing is copied. Assumes a record of good form and a table that passes.
+#![tactic(auto)]
+
 ghost use Rattle.std.specs.Prelude.{◌≡◌, List, ℕ, ◌+◌, ◌*◌, ◌≤◌, ◌<◌, length, take, replicate};
 ghost use Rattle.rules.specs.States.{code};
 ghost use Rattle.rules.specs.Table.{plan_count};

@@ -1,6 +1,8 @@
 // One pass over all plans of a step, and what stands around it: the picks of the words before it, the new states beside the old ones and
 // the causes after it. The step, the run and the checker all go through it; the checker asks for no causes. Each function costs O(n) for n
 // plans; nothing is allocated. Assumes a table that passes, its facts, and the words of the old states (`StepFacts`).
+#![tactic(auto)]
+
 ghost use Rattle.std.specs.Prelude.{◌≡◌, ℕ, ◌*◌, ◌≤◌, ◌<◌, length, take};
 ghost use Rattle.rules.specs.Lists.{same};
 ghost use Rattle.rules.specs.Table.{plan_count};

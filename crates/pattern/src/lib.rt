@@ -1,5 +1,7 @@
 // How long must it have held: whether a history satisfies a time annotation or still can, and the normal form of an annotation. One pass
 // over the samples; nothing is allocated. Numbers come in two's complement, and any are taken. Assumes nothing.
+#![tactic(auto)]
+
 ghost use Rattle.std.specs.Prelude.{◌≡◌, ◌+◌, ◌-◌, ◌%◌, ◌^◌, ◌≤◌, min, max, true, length};
 ghost use Rattle.time.specs.Annotations.{base, counted, bound_of, annotation_of, in_range, bound_in_range, annotation_in_range};
 ghost use Rattle.time.specs.Patterns.{every, minute_at, in_order, samples_check, pattern_check, Judged};

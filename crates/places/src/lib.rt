@@ -1,5 +1,7 @@
 // The number and the place of a refusal, for those who tell it. A crate of its own, since its proof has a case for each refusal, and a
 // must-fail edit of `rules` would check it anew. Assumes nothing.
+#![tactic(auto)]
+
 ghost use Rattle.std.specs.Prelude.{◌≡◌};
 ghost use Rattle.rules.specs.Answers.{placed, place};
 

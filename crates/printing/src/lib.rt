@@ -1,5 +1,7 @@
 // What `aptime` prints, put into a lent output: the line for a line of the text that is wrong, or the answer with the normal form. Each
 // contract says every byte of the output. Assumes that there is room.
+#![tactic(auto)]
+
 ghost use Rattle.std.specs.Prelude.{◌+◌, ◌≤◌, length};
 ghost use Rattle.output.specs.Output.{Put};
 ghost use Rattle.printing.specs.Printing as Printing;

@@ -1,5 +1,7 @@
 // Checks a treatment record by a rule: 17, 1 to 9 of its table, 13, 14, then step by step 12 before 15 of documents 01 and 02.
 // A step costs O(n) for n plans; nothing is allocated or copied. Assumes nothing.
+#![tactic(auto)]
+
 ghost use Rattle.std.specs.Prelude.{◌≡◌, List, ℕ};
 ghost use Rattle.rules.specs.Table.{plan_count};
 ghost use Rattle.rules.specs.Record.{step_count};

@@ -1,5 +1,7 @@
 // What one line of a text for `aptime` says: a statement, nothing, or what is wrong with it. `says` is the whole of it on a slice; `run`
 // also finds where a line ends. Assumes nothing.
+#![tactic(auto)]
+
 ghost use Rattle.std.specs.Prelude.{◌≡◌, ◌+◌, ◌-◌, ◌%◌, ◌^◌, ◌≤◌, true, length};
 ghost use Rattle.statements.specs.Words as Words;
 ghost use Rattle.statements.specs.Statements as Statements;

@@ -1,5 +1,7 @@
 // One synchronous step and the run to rest: the calls of a host, each in its own work space.
 // A step costs O(n) for n plans; nothing is allocated. Assumes nothing.
+#![tactic(auto)]
+
 ghost use Rattle.std.specs.Prelude.{◌≡◌, cond, ltb, ℕ, ◌≤◌, ◌<◌, length, take};
 ghost use Rattle.rules.specs.Table.{plan_count};
 ghost use Rattle.rules.specs.Step.{step};

@@ -2,6 +2,8 @@
 // not 0 and for a number that a step may not have, and lays down what a step leaves. `Stored` of crates/rules/specs has the layout, which
 // only this crate's code knows too. Each function costs O(n) for n plans; nothing is allocated. Assumes that there are eight bytes for each
 // plan, as who calls has looked at the length.
+#![tactic(auto)]
+
 ghost use Rattle.std.specs.Prelude.{◌≡◌, cond, ◌+◌, ◌*◌, ◌≤◌, leb, length};
 ghost use Rattle.rules.specs.Lists.{some_below};
 ghost use Rattle.rules.specs.States.{state_of};

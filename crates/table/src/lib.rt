@@ -1,6 +1,8 @@
 // Reads a plan table: checks 1 to 9 and 22 of documents 01 and 02, what a good table gives to those above, and the sub tree question.
 // Every function that goes over the plans costs O(n) for n plans, and with its nodes a table of version 2 O(n + nodes); `climbs_to` costs
 // O(n) over a whole table. Assumes nothing.
+#![tactic(auto)]
+
 ghost use Rattle.std.specs.Prelude.{◌≡◌, [], ◌∷◌, map, ◌+◌, ◌*◌, ◌<◌, ◌≤◌, leb, length, take};
 ghost use Rattle.rules.specs.Lists.{some, same};
 ghost use Rattle.rules.specs.Bytes.{byte_at};

@@ -1,6 +1,8 @@
 // The step, the run to rest, the figure for it, the checker, the moves of tables and what makes a word's pattern bits, for a tablet's host
 // program written in C, on numbers and slices; include/asbru.h declares them. An answer is one 64-bit number, which `Packed` in specs/ lays
 // out. Nothing is allocated. Assumes nothing.
+#![tactic(auto)]
+
 ghost use Rattle.std.specs.Prelude.{ℕ, ◌≡◌, cond};
 ghost use Rattle.rules.specs.Words.{with_bits, with_pattern};
 ghost use Rattle.rules.specs.Answers.{step_answer, step_states, step_causes, run_answer, run_states, run_causes};

@@ -1,6 +1,8 @@
 // What the programs share: reading standard input into a buffer, and putting text together. Each function on slices says
 // every byte that it puts. Assumes what no contract can speak of, of the system's read: that the buffer is given the bytes of standard
 // input, and that a read which fails is answered by a negative number; and of its write that what is handed over is written.
+#![tactic(auto)]
+
 ghost use Rattle.std.specs.Prelude.{◌≡◌, [], ◌∷◌, ◌++◌, ◌+◌, ◌≤◌, length};
 ghost use Rattle.rules.specs.Program.{decimal, line};
 ghost use Rattle.output.specs.Output.{Put};

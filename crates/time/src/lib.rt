@@ -1,5 +1,7 @@
 // What a time annotation is, and what a question about one is answered: the words of document 003, section 13.2. The definitions are in
 // specs/, their laws in proofs/; the code that decides them is crate `pattern`. Assumes nothing.
+#![tactic(auto)]
+
 use rules::Refusal;
 
 // A bound of an annotation: none, or a number of minutes z as z + 4,000,000,000.

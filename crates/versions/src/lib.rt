@@ -1,5 +1,7 @@
 // Moves a plan table from version 1 to 2 and back, document 02 (vi), into a lent output. Every function that goes over plans or nodes costs
 // O(1) for each of them. Assumes nothing.
+#![tactic(auto)]
+
 ghost use Rattle.std.specs.Prelude.{◌≡◌, cond, [], ◌∷◌, ◌+◌, ◌*◌, ◌/◌, ◌%◌, ◌<◌, ◌≤◌, length};
 ghost use Rattle.rules.specs.Table.{entry};
 ghost use Rattle.rules.specs.WaitFor.{node_count, is_leaf};
