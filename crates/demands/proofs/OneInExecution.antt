@@ -10,7 +10,7 @@ use Rattle.rules.specs.Table.{entry, body_of, retry_aborted}
 use Rattle.rules.specs.HandedIn.{lets_later}
 use Rattle.rules.specs.Record.{states_of}
 use Rattle.rules.specs.Answers.{Judged}
-use Rattle.rules.specs.Demands.{one_at_atime, SubPlan, AtMostOne}
+use Rattle.rules.specs.Demands.{one_at_a_time, SubPlan, AtMostOne}
 use Rattle.rules.specs.declared.Body.{Body}
 use Rattle.rules.specs.declared.Body.TheVariants.{
   Leaf,
@@ -45,10 +45,10 @@ module _ (t : List ℕ) (st : ℕ → PlanState) (v : Valid t st) where
   one_of_ordered q c d kept at_c at_d x y =
       not_lower c d (none_later q c d kept at_c at_d x y) (none_later q d c kept at_d at_c y x)
 
-  one_at_a_time :
-      (q c d : ℕ) → T (one_at_atime (body_of (entry t q))) → SubPlan t q c → SubPlan t q d → T (in_execution (st c))
+  one_at_a_time_lem :
+      (q c d : ℕ) → T (one_at_a_time (body_of (entry t q))) → SubPlan t q c → SubPlan t q d → T (in_execution (st c))
       → T (in_execution (st d)) → c ≡ d
-  one_at_a_time q c d h at_c at_d x y = go (body_of (entry t q)) refl h
+  one_at_a_time_lem q c d h at_c at_d x y = go (body_of (entry t q)) refl h
     where
       again : Bool
       again = retry_aborted (entry t q)
@@ -63,7 +63,7 @@ module _ (t : List ℕ) (st : ℕ → PlanState) (v : Valid t st) where
       executing_kept true = tt
       executing_kept false = tt
 
-      go : (body : Body) → body_of (entry t q) ≡ body → T (one_at_atime body) → c ≡ d
+      go : (body : Body) → body_of (entry t q) ≡ body → T (one_at_a_time body) → c ≡ d
       go Leaf b k = absurd k
       go Sequential b k = kept Sequential b executing_kept
       go Parallel b k = absurd k
@@ -77,4 +77,4 @@ module _ (t : List ℕ) (st : ℕ → PlanState) (v : Valid t st) where
 pub one_in_execution :
     (rule : ℕ) (t r : List ℕ) (steps : ℕ) → Judged rule t r (Accepted steps) → (i : ℕ) → i < steps → AtMostOne t (states_of t r i)
 one_in_execution rule t r steps judged i l =
-    one_at_a_time t (state_at (states_of t r i)) (passes_valid t (states_of t r i) (accepted_step rule t r steps judged i l).after)
+    one_at_a_time_lem t (state_at (states_of t r i)) (passes_valid t (states_of t r i) (accepted_step rule t r steps judged i l).after)

@@ -8,8 +8,8 @@ use Rattle.rules.specs.declared.Body.TheVariants.{Sequential, AnyOrder, OnAbort,
 use Rattle.rules.specs.declared.PlanState.TheVariants.{Considered, Activated, Aborted}
 
 -- bodies of which at most one child is in execution
-abbrev pub one_at_atime : Body → Bool
-one_at_atime body = is_body Sequential body || is_body AnyOrder body || is_body OnAbort body || is_body IfThenElse body
+abbrev pub one_at_a_time : Body → Bool
+one_at_a_time body = is_body Sequential body || is_body AnyOrder body || is_body OnAbort body || is_body IfThenElse body
 
 -- p is a child of q, in demand 3's words a sub plan
 pub record SubPlan (t : List ℕ) (q p : ℕ) : Type 0 where
@@ -25,7 +25,7 @@ pub record Retried (t s shown : List ℕ) (a p : ℕ) : Type 0 where
 -- of the children of a sequential, any-order, on abort or if-then-else plan at most one is in execution
 abbrev pub AtMostOne : List ℕ → List ℕ → Type 0
 AtMostOne t shown =
-    (q c d : ℕ) → T (one_at_atime (body_of (entry t q))) → SubPlan t q c → SubPlan t q d → T (in_execution (state_at shown c))
+    (q c d : ℕ) → T (one_at_a_time (body_of (entry t q))) → SubPlan t q c → SubPlan t q d → T (in_execution (state_at shown c))
     → T (in_execution (state_at shown d)) → c ≡ d
 
 -- a child is Activated only while its parent is Activated
