@@ -43,7 +43,7 @@ module _ (t : List ℕ) (q : ℕ) where
   -- among the first k plans
   before_children : (k c : ℕ) → Memᴰ c (children_before t q k) → (c < k) × T (is_child t q c)
   unfolding children_before
-  before_children zero c m = absurd (Memᴰ.not_nil m)
+  before_children zero c m = absurd (Memᴰ.not-nil m)
   before_children (suc k) c m =
       go (is_child t q k) refl (Memᴰ.append_cases (children_before t q k) m) (before_children k c)
     where
@@ -54,7 +54,7 @@ module _ (t : List ℕ) (q : ℕ) where
       go true e (inr a) ih =
           let z : c ≡ k = Memᴰ.eq_of_singleton a in
           (omega arith, rw (z, e) tt)
-      go false e (inr a) ih = absurd (Memᴰ.not_nil a)
+      go false e (inr a) ih = absurd (Memᴰ.not-nil a)
 
   children_before_lem : (k c : ℕ) → c < k → T (is_child t q c) → Memᴰ c (children_before t q k)
   unfolding children_before

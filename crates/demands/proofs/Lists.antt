@@ -58,7 +58,7 @@ Sorted [] = Unit {0}
 Sorted (k ∷ ks) = ((c : ℕ) → Memᴰ c ks → k < c) × Sorted ks
 
 pub sorted_snoc : (ks : List ℕ) (k : ℕ) → Sorted ks → ((c : ℕ) → Memᴰ c ks → c < k) → Sorted (ks ++ (k ∷ []))
-sorted_snoc [] k o h = ((λ c m. absurd (Memᴰ.not_nil m)), tt)
+sorted_snoc [] k o h = ((λ c m. absurd (Memᴰ.not-nil m)), tt)
 sorted_snoc (x ∷ ks) k o h = (above, sorted_snoc ks k o.1 (λ c m. h c (Memᴰ.tail m)))
   where
     above : (c : ℕ) → Memᴰ c (ks ++ (k ∷ [])) → x < c
@@ -71,7 +71,7 @@ sorted_snoc (x ∷ ks) k o h = (above, sorted_snoc ks k o.1 (λ c m. h c (Memᴰ
 -- in such a list the first that passes is the lowest, and the last the highest
 module _ (f : ℕ → Bool) (c : ℕ) where
   pub first_le : (ks : List ℕ) → Sorted ks → Memᴰ c ks → T (f c) → first f ks ≤ c
-  first_le [] o m h = absurd (Memᴰ.not_nil m)
+  first_le [] o m h = absurd (Memᴰ.not-nil m)
   first_le (k ∷ ks) o (Memᴰ.head e) h = go (f k) (rw e at h)
     where
       go : (b : Bool) → T b → cond b k (first f ks) ≤ c
@@ -84,7 +84,7 @@ module _ (f : ℕ → Bool) (c : ℕ) where
       go false x y = x
 
   pub last_ge : (ks : List ℕ) → Sorted ks → Memᴰ c ks → T (f c) → c ≤ last f ks
-  last_ge [] o m h = absurd (Memᴰ.not_nil m)
+  last_ge [] o m h = absurd (Memᴰ.not-nil m)
   last_ge (k ∷ ks) o (Memᴰ.head e) h = go (some f ks) (f k) (rw e at h) (last_found f ks)
     where
       go : (b d : Bool) → T d → (T b → Found f ks (last f ks)) → c ≤ cond b (last f ks) (cond d k no_plan)
