@@ -5,14 +5,14 @@
 use rules::Refusal;
 
 // A bound of an annotation: none, or a number of minutes z as z + 4,000,000,000.
-#[derive(Drop)]
+#[derive(Clone, Copy)]
 pub enum Bound {
     Open,
     At(u64),
 }
 
 // A time annotation: four shifts from a reference point, and two durations. Numbers are coded as a bound's are.
-#[derive(Drop)]
+#[derive(Clone, Copy)]
 pub struct Annotation {
     pub ess: Bound,
     pub lss: Bound,
@@ -34,7 +34,7 @@ pub enum Judgement {
 }
 
 // How the code decides: the bounds of an annotation as minutes, an open one as a minute beyond all that are asked about.
-#[derive(Drop)]
+#[derive(Clone, Copy)]
 pub struct Window {
     pub ess: u64,
     pub lss: u64,
@@ -46,7 +46,7 @@ pub struct Window {
 
 // How the code decides: what a pass over the samples has come to. An interval that satisfies, no run of true minutes, or one that goes on
 // since a minute.
-#[derive(Drop)]
+#[derive(Clone, Copy)]
 pub enum Pass {
     Found { first: u64, last: u64 },
     Off,
