@@ -12,7 +12,7 @@ ghost use Rattle.rules.specs.Answers.{is_rule};
 ghost use Rattle.rules.specs.Words.{pick_of, holds, satisfiable};
 
 // The state of a plan.
-#[derive(Drop)]
+#[derive(Clone, Copy)]
 pub enum PlanState {
     Inactive,
     Considered,
@@ -120,7 +120,7 @@ impl PlanState {
 }
 
 // Why a plan moved in a step.
-#[derive(Drop)]
+#[derive(Clone, Copy)]
 pub enum Cause {
     Unmoved,
     Ordered,
@@ -145,7 +145,7 @@ impl Cause {
 }
 
 // The body of a plan: how it orders its children about.
-#[derive(Drop)]
+#[derive(Clone, Copy)]
 pub enum Body {
     Leaf,
     Sequential,
@@ -192,7 +192,7 @@ impl Body {
 }
 
 // A condition of a plan.
-#[derive(Drop)]
+#[derive(Clone, Copy)]
 pub enum Condition {
     Filter,
     Setup,
@@ -228,14 +228,14 @@ pub fn is_set(x: u32, k: u32) -> bool
 }
 
 // What a pattern stands for in an input word: a condition of a plan, or the one that its if-then-else asks.
-#[derive(Drop)]
+#[derive(Clone, Copy)]
 pub enum Pattern {
     Of(Condition),
     If,
 }
 
 // A plan's eight bytes of the table.
-#[derive(Drop)]
+#[derive(Clone, Copy)]
 pub struct PlanEntry {
     pub parent: u16,
     pub body: u8,
@@ -335,7 +335,7 @@ pub fn at_least(m: u32, set: u64) -> bool
 }
 
 // A node of a wait-for formula: its four bytes of a table of version 2.
-#[derive(Drop)]
+#[derive(Clone, Copy)]
 pub struct Node {
     pub kind: u8,
     pub a: u8,
@@ -344,7 +344,7 @@ pub struct Node {
 }
 
 // How a node joins what two others ask.
-#[derive(Drop)]
+#[derive(Clone, Copy)]
 pub enum Joint {
     And,
     Or,
@@ -366,7 +366,7 @@ impl Joint {
 
 // What a node asks of a set of children: the child of a rank, not what another node asks, what two others ask, joined, or a number of
 // named children.
-#[derive(Drop)]
+#[derive(Clone, Copy)]
 pub enum Asks {
     Child(u8),
     Not(u8),
@@ -392,7 +392,7 @@ impl Node {
 }
 
 // What a parent orders a child to do.
-#[derive(Drop)]
+#[derive(Clone, Copy)]
 pub struct Orders {
     pub considers: bool,
     pub activates: bool,
@@ -400,7 +400,7 @@ pub struct Orders {
 }
 
 // Why a call is refused: the answer numbers of documents 01 and 02, in their order.
-#[derive(Drop)]
+#[derive(Clone, Copy)]
 pub enum Refusal {
     TableShort,
     TableMark,
@@ -430,7 +430,7 @@ pub enum Refusal {
 }
 
 // The number of a refusal and its place: unnamed places are 0.
-#[derive(Drop)]
+#[derive(Clone, Copy)]
 pub struct Place {
     pub number: u8,
     pub step: u16,
@@ -438,21 +438,21 @@ pub struct Place {
 }
 
 // What a check or a step answers.
-#[derive(Drop)]
+#[derive(Clone, Copy)]
 pub enum Outcome {
     Done,
     Refused(Refusal),
 }
 
 // What a whole table answers, with its plans, a whole record, with its steps, and a table that is moved, with the bytes written.
-#[derive(Drop)]
+#[derive(Clone, Copy)]
 pub enum Verdict {
     Accepted(u16),
     Refused(Refusal),
 }
 
 // What a run to rest answers.
-#[derive(Drop)]
+#[derive(Clone, Copy)]
 pub enum Rest {
     Rested(u16),
     Moving,
@@ -460,7 +460,7 @@ pub enum Rest {
 }
 
 // What a question for the most steps to rest answers: so many, or that no figure is known.
-#[derive(Drop)]
+#[derive(Clone, Copy)]
 pub enum Figure {
     Within(u16),
     Unknown,
