@@ -1,0 +1,21 @@
+-- `check_samples` meets its contract. Assumes nothing.
+use Rattle.std.proofs.Common.{sym, ◌∙◌, arith}
+use Rattle.time.proofs.Histories.{refuses_range, refuses_many, refuses_order}
+use Rattle.pattern.proofs.check_samples.Goals as goal
+
+pub returns-then-not-samples_in_range : goal.returns-then-not-samples_in_range
+returns-then-not-samples_in_range c =
+    sym (refuses_range c.args.samples.now c.args.asked
+    (sym c.samples_in_range.ensures ∙ c.if-not-samples_in_range.true))
+
+pub returns-then-samples-gt1024 : goal.returns-then-samples-gt1024
+returns-then-samples-gt1024 c =
+    sym (refuses_many c.args.samples.now c.args.asked
+    (sym c.samples_in_range.ensures ∙ c.if-not-samples_in_range.false) c.if-samples-gt1024.true)
+
+pub returns : goal.returns
+returns c =
+    sym (refuses_order c.args.samples.now c.args.asked
+    (sym c.samples_in_range.ensures ∙ c.if-not-samples_in_range.false)
+    (omega arith)
+    (sym c.in_order.ensures ∙ c.if-in_order.false))
