@@ -1,6 +1,7 @@
-// What the programs share: reading standard input into a buffer, and putting text together. Each function on slices says
-// every byte that it puts. Assumes what no contract can speak of, of the system's read: that the buffer is given the bytes of standard
-// input, and that a read which fails is answered by a negative number; and of its write that what is handed over is written.
+// What the programs share: reading an input into a buffer, writing, and putting text together. Each function on slices says every byte that
+// it puts. Who calls hands over the reader and the writers: the programs take the three standard streams. Assumes what no contract can speak
+// of, of the system's read: that the buffer is given the bytes of standard input, and that a read which fails is answered by an error; and
+// of its write that what is handed over is written.
 #![tactic(auto)]
 
 ghost use Rattle.std.specs.Prelude.{◌≡◌, [], ◌∷◌, ◌++◌, ◌+◌, ◌≤◌, length};
@@ -8,9 +9,9 @@ ghost use Rattle.rules.specs.Program.{decimal, line};
 ghost use Rattle.output.specs.Output.{Put};
 ghost use Rattle.text.specs.Came.{came, MayCome, InRoom};
 
-use libc::{STDERR_FILENO, STDIN_FILENO, STDOUT_FILENO};
 use output::put;
 use rules::{Refusal, Verdict};
+use std::io::{Error, Read, Write};
 
 // What reading the input came to: a read failed, or there are so many bytes.
 #[derive(Drop)]
@@ -19,13 +20,13 @@ pub enum Input {
     Whole(usize),
 }
 
-// Reads standard input to its end, or as far as the buffer has room. A read that fails is not the end of the input.
-pub fn read_input(buffer: &mut [u8]) -> Input
+// Reads an input to its end, or as far as the buffer has room. A read that fails is not the end of the input.
+pub fn read_input<R: Read>(reader: &mut R, buffer: &mut [u8]) -> Input
     ensures { InRoom result buffer.new }
 {
     let mut n = 0;
     while n < buffer.len() {
-        match read_some(&mut buffer[n..]) {
+        match read_some(reader, &mut buffer[n..]) {
             Got::Failed => return Input::Broken,
             Got::Ended => return Input::Whole(n),
             Got::Bytes(k) => n += k,
@@ -43,22 +44,24 @@ pub enum Got {
 }
 
 // One read into a part of the buffer.
-fn read_some(room: &mut [u8]) -> Got
+fn read_some<R: Read>(reader: &mut R, room: &mut [u8]) -> Got
     ensures { MayCome (length room.old) result }
 {
-    let answer = libc::read(STDIN_FILENO, room);
+    let answer = reader.read(room);
     what_came(answer, room)
 }
 
-// What the system's answer to a read means.
-fn what_came(answer: isize, room: &[u8]) -> Got
+// What the reader's answer means.
+fn what_came(answer: Result<usize, Error>, room: &[u8]) -> Got
     ensures { result ≡ came answer (length room.now) }
 {
-    if answer < 0 {
-        return Got::Failed;
+    match answer {
+        Err(_) => Got::Failed,
+        Ok(n) => {
+            let k = n.min(room.len());
+            if k == 0 { Got::Ended } else { Got::Bytes(k) }
+        }
     }
-    let k = io::count(answer, room);
-    if k == 0 { Got::Ended } else { Got::Bytes(k) }
 }
 
 // Room for the longest input that may pass and one byte more: an input that fills it is too long, whatever else follows.
@@ -69,15 +72,15 @@ pub fn buffer() -> [u8; 65537]
 }
 
 // Writes a text on standard output, and where that fails says so on standard error.
-pub fn write(text: &[u8], failed: &[u8]) {
-    if !io::write_all(STDOUT_FILENO, text) {
-        complain(failed);
+pub fn write<W: Write, E: Write>(output: &mut W, errors: &mut E, text: &[u8], failed: &[u8]) {
+    if output.write_all(text).is_err() {
+        complain(errors, failed);
     }
 }
 
 // Writes a text on standard error: where that fails too, nobody can be told.
-pub fn complain(text: &[u8]) {
-    io::write_all(STDERR_FILENO, text);
+pub fn complain<E: Write>(errors: &mut E, text: &[u8]) {
+    let _ = errors.write_all(text);
 }
 
 // Puts the line for a refusal behind the first `at` bytes of `out`, and answers the new end. No plan count shows in it.
