@@ -10,7 +10,7 @@ ghost use Rattle.statements.specs.Statements as Statements;
 pub const OPEN: u64 = 0x8000_0000_0000_0000;
 
 // What a line says.
-#[derive(Drop)]
+#[derive(Clone, Copy)]
 pub enum Saying {
     Nothing,
     Bounds {
@@ -27,7 +27,7 @@ pub enum Saying {
 }
 
 // Statements of two bounds.
-#[derive(Drop)]
+#[derive(Clone, Copy)]
 pub enum Pair {
     Start,
     Finish,
@@ -48,14 +48,14 @@ impl Pair {
 }
 
 // Statements of one number.
-#[derive(Drop)]
+#[derive(Clone, Copy)]
 pub enum Single {
     From,
     Asked,
 }
 
 // What is wrong with a line; the last two show only beside the other lines.
-#[derive(Drop)]
+#[derive(Clone, Copy)]
 pub enum Fault {
     Unknown,
     NoNumber,
@@ -81,7 +81,7 @@ pub fn says(line: &[u8]) -> Saying
 }
 
 // What a line's first word says that it is.
-#[derive(Drop)]
+#[derive(Clone, Copy)]
 enum Head {
     Nothing,
     Bounds(Pair),
@@ -241,7 +241,7 @@ fn truth(w: &[u8]) -> Value
 }
 
 // What a word is as a number, in two's complement.
-#[derive(Drop)]
+#[derive(Clone, Copy)]
 pub enum Value {
     Missing,
     Is(u64),
@@ -361,7 +361,7 @@ fn trimmed(s: &[u8]) -> &[u8]
 }
 
 // What a stretch of bytes is of.
-#[derive(Drop)]
+#[derive(Clone, Copy)]
 pub enum Stretch {
     Blanks,
     Word,
