@@ -45,6 +45,8 @@ defined after first second =
 agree : (a b : Bool) → T (beq a b) → a ≡ b
 agree true true h = refl
 agree false false h = refl
+agree false true h = elim h [ ]
+agree true false h = elim h [ ]
 
 all_agree : (after : Bool) → T (every (λ f. every (λ s. beq (asked after f s) (defined after f s))))
 all_agree true = tt
