@@ -72,11 +72,10 @@ fn number_asked(table: &[u8], n: usize, p: usize) -> u64
     ensures { result ≡ number_asked table.now p }
 {
     let e = entry_at(table, p);
-    let wait = e.wait;
     if e.body_kind().is(Body::Leaf) {
         return 0;
     }
-    let node = node_at(table, wide(wait));
+    let node = node_at(table, wide(e.wait));
     // kind 5, and no other once check 22 has passed
     if node.kind < 5 {
         return 256;

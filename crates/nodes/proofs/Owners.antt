@@ -357,9 +357,13 @@ module _
         unfolding some_below asks_too_many
         asking_other p ne = rw (ne_eqb (owner t i) p ne) (or-false (asking t i p))
 
+        asks_here : asks_too_many t o i ≡ (eqb e.kind 5 && not enough)
+        unfolding asks_too_many
+        asks_here = rw (too_many_is, is, owner_is, eq-eqb (owner t i) (owner t i) refl) refl
+
         asking_here : asking t (suc i) o ≡ (asking t i o || (eqb e.kind 5 && not enough))
-        unfolding some_below asks_too_many
-        asking_here = rw (too_many_is, is, owner_is, eq-eqb (owner t i) (owner t i) refl) refl
+        unfolding some_below
+        asking_here = ap (λ (b : Bool). asking t i o || b) asks_here
 
         asking_more : (p : ℕ) → asking t i p ≡ true → asking t (suc i) p ≡ true
         unfolding some_below

@@ -1,0 +1,30 @@
+-- `check_asked` meets its contract: each search finds the lowest node or plan that breaks its rule. Assumes nothing.
+use Rattle.std.proofs.Common.{refl, sym, ◌∙◌, ℕ}
+use lib.ListN.{get_or-replicate}
+use Rattle.rules.proofs.Outcomes.{pass_at, stop_at, pass_at_last, stop_at_last}
+use Rattle.lowest.proofs.Lowest.{lowest_at, lowest_none}
+use Rattle.nodes.proofs.Owners.{good_operands, lowest_wait}
+use Rattle.nodes.proofs.check_asked.Goals as goal
+
+pub own_firsts-requires-clause-owners : goal.own_firsts-requires-clause-owners
+own_firsts-requires-clause-owners c = ((λ j l. get_or-replicate {A = ℕ} 256 j 0 0 l), refl)
+
+pub own_asked-requires-clause-table : goal.own_asked-requires-clause-table
+own_asked-requires-clause-table c =
+    let pre = c.requires.nodes in
+    (pre.0, pre.1, λ i l. good_operands _ _ i pre.0.nodes (pre.2 i l))
+
+pub returns-then-bad-k : goal.returns-then-bad-k
+returns-then-bad-k c = sym (stop_at _ _ _ _ (lowest_at _ _ _ c.lowest_bad_rank-bad.ensures c.if-bad-k.true))
+
+pub returns-then-plan-n : goal.returns-then-plan-n
+returns-then-plan-n c =
+    sym
+    (pass_at _ _ _ (lowest_none _ _ _ c.lowest_bad_rank-bad.ensures c.if-bad-k.false)
+    ∙ stop_at_last _ _ _ (lowest_at _ _ _ (lowest_wait _ _ _ _ c.requires.nodes.0 c.lowest_asking-plan.ensures) c.if-plan-n.true))
+
+pub returns : goal.returns
+returns c =
+    sym
+    (pass_at _ _ _ (lowest_none _ _ _ c.lowest_bad_rank-bad.ensures c.if-bad-k.false)
+    ∙ pass_at_last _ _ (lowest_none _ _ _ (lowest_wait _ _ _ _ c.requires.nodes.0 c.lowest_asking-plan.ensures) c.if-plan-n.false))
