@@ -12,15 +12,20 @@ ghost use Rattle.rules.specs.Program.{table_length, Answered, line, Printed};
 use rules::{Outcome, Refusal, Verdict};
 use text::Input;
 
-fn main() {
+fn main(rt: HostRuntime) {
     let mut input = text::buffer();
-    let Input::Whole(n) = text::read_input(&mut input) else {
-        text::complain(b"aprcheck: standard input cannot be read; nothing is judged\n");
+    let Input::Whole(n) = text::read_input(&mut rt.stdin(), &mut input) else {
+        text::complain(
+            &mut rt.stderr(),
+            b"aprcheck: standard input cannot be read; nothing is judged\n",
+        );
         return;
     };
     let mut out = [0u8; 128];
     let end = report(&input[..n], &mut out);
     text::write(
+        &mut rt.stdout(),
+        &mut rt.stderr(),
         &out[..end],
         b"aprcheck: standard output cannot be written\n",
     );

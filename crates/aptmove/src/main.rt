@@ -19,19 +19,24 @@ pub enum Told {
     Complaint(usize),
 }
 
-fn main() {
+fn main(rt: HostRuntime) {
     let mut input = text::buffer();
-    let Input::Whole(n) = text::read_input(&mut input) else {
-        text::complain(b"aptmove: standard input cannot be read; nothing is moved\n");
+    let Input::Whole(n) = text::read_input(&mut rt.stdin(), &mut input) else {
+        text::complain(
+            &mut rt.stderr(),
+            b"aptmove: standard input cannot be read; nothing is moved\n",
+        );
         return;
     };
     let mut out = [0u8; 4096];
     match report(&input[..n], &mut out) {
         Told::Table(end) => text::write(
+            &mut rt.stdout(),
+            &mut rt.stderr(),
             &out[..end],
             b"aptmove: standard output cannot be written\n",
         ),
-        Told::Complaint(end) => text::complain(&out[..end]),
+        Told::Complaint(end) => text::complain(&mut rt.stderr(), &out[..end]),
     }
 }
 

@@ -11,19 +11,19 @@
 //   down TABLE OUTPUT                     moves a table to version 1, likewise
 // with bytes in hexadecimal (see `bytes_of`) and numbers in decimal. A line that begins with `#` is printed as it is,
 // and an empty one as well.
-// Assumes what `io` does of read and write, and that the input is at most 262,144 bytes.
+// Assumes what std does of the system's read and write, and that the input is at most 262,144 bytes.
 #![tactic(auto)]
 
 ghost use Rattle.std.specs.Prelude.{◌≡◌, ◌≤◌, ◌<◌, length};
 ghost use Rattle.io.specs.Counts.{IsPrefixLen};
 
-use libc::{STDIN_FILENO, STDOUT_FILENO};
 use rules::{Figure, Outcome, Refusal, Rest, Verdict};
+use std::io::{Print, Read};
 
-fn main() {
+fn main(rt: HostRuntime) {
     let mut input = input_buffer();
-    let n = io::read_full(STDIN_FILENO, &mut input);
-    run_lines(&input[..n]);
+    let n = read_full(&mut rt.stdin(), &mut input);
+    run_lines(&rt, &input[..n]);
 }
 
 // Room for all trials.
@@ -33,12 +33,26 @@ fn input_buffer() -> [u8; 262144]
     [0; 262144]
 }
 
+// Reads until the buffer is full, the input ends or a read fails, and answers how many bytes there are.
+fn read_full<R: Read>(reader: &mut R, buffer: &mut [u8]) -> usize
+    ensures { IsPrefixLen result buffer.new }
+{
+    let mut n = 0;
+    while n < buffer.len() {
+        match reader.read(&mut buffer[n..]) {
+            Ok(0) | Err(_) => return n,
+            Ok(k) => n += k,
+        }
+    }
+    n
+}
+
 // Each line in turn.
-fn run_lines(text: &[u8]) {
+fn run_lines<P: Print>(rt: &P, text: &[u8]) {
     let mut at = 0;
     while at < text.len() {
         let end = stop_of(text, at, b'\n');
-        run_line(&text[at..end]);
+        run_line(rt, &text[at..end]);
         at = end + 1;
     }
 }
@@ -58,39 +72,39 @@ fn stop_of(text: &[u8], from: usize, stop: u8) -> usize
     i
 }
 
-fn run_line(line: &[u8]) {
+fn run_line<P: Print>(rt: &P, line: &[u8]) {
     if line.len() == 0 {
-        end_line();
+        end_line(rt);
         return;
     }
     match line[0] {
         b'#' => {
-            print(line);
-            end_line();
+            print(rt, line);
+            end_line(rt);
         }
-        b't' => run_table(line),
-        b's' => run_sub_tree(line),
-        b'm' => run_call(line, false, false),
-        b'r' => run_call(line, true, false),
-        b'w' => run_call(line, false, true),
-        b'l' => run_call(line, true, true),
-        b'b' => run_bound(line),
-        b'j' => run_judge(line),
-        b'u' => run_move(line, true),
-        b'd' => run_move(line, false),
+        b't' => run_table(rt, line),
+        b's' => run_sub_tree(rt, line),
+        b'm' => run_call(rt, line, false, false),
+        b'r' => run_call(rt, line, true, false),
+        b'w' => run_call(rt, line, false, true),
+        b'l' => run_call(rt, line, true, true),
+        b'b' => run_bound(rt, line),
+        b'j' => run_judge(rt, line),
+        b'u' => run_move(rt, line, true),
+        b'd' => run_move(rt, line, false),
         _ => {
-            print(b"no such trial");
-            end_line();
+            print(rt, b"no such trial");
+            end_line(rt);
         }
     }
 }
 
-fn print(text: &[u8]) {
-    io::write_all(STDOUT_FILENO, text);
+fn print<P: Print>(rt: &P, text: &[u8]) {
+    let _ = rt.write_all(text);
 }
 
-fn end_line() {
-    print(b"\n");
+fn end_line<P: Print>(rt: &P) {
+    print(rt, b"\n");
 }
 
 // Field k of a line, counted from 0, or nothing.
@@ -194,24 +208,24 @@ fn number_of(text: &[u8]) -> usize
     n
 }
 
-fn run_table(line: &[u8]) {
+fn run_table<P: Print>(rt: &P, line: &[u8]) {
     let mut space = io::buffer();
     let n = bytes_of(field(line, 1), &mut space);
-    print_verdict(table::check_table(&space[..n]));
+    print_verdict(rt, table::check_table(&space[..n]));
 }
 
-fn run_sub_tree(line: &[u8]) {
+fn run_sub_tree<P: Print>(rt: &P, line: &[u8]) {
     let mut space = io::buffer();
     let n = bytes_of(field(line, 1), &mut space);
     let mut states = io::buffer();
     let m = bytes_of(field(line, 2), &mut states);
-    print_bytes(table::sub_tree(&space[..n], &states[..m], number_of(field(line, 3))));
-    end_line();
+    print_bytes(rt, table::sub_tree(&space[..n], &states[..m], number_of(field(line, 3))));
+    end_line(rt);
 }
 
 // Lends a table, states, words and room for causes to the step, or to the run to rest. Where the line does not tell what stands in that
 // room, there is as much as the states take, and it is not shown.
-fn run_call(line: &[u8], rests: bool, told: bool) {
+fn run_call<P: Print>(rt: &P, line: &[u8], rests: bool, told: bool) {
     let mut space = io::buffer();
     let n = bytes_of(field(line, 2), &mut space);
     let mut states = io::buffer();
@@ -222,6 +236,7 @@ fn run_call(line: &[u8], rests: bool, told: bool) {
     let j = bytes_of(field(line, if told { 5 } else { 3 }), &mut causes);
     let budget = number_of(field(line, if told { 6 } else { 5 })) % 65536;
     call(
+        rt,
         rule_of(line),
         &space[..n],
         &mut states[..m],
@@ -238,7 +253,8 @@ fn rule_of(line: &[u8]) -> u32 {
     number_of(field(line, 1)) as u32
 }
 
-fn call(
+fn call<P: Print>(
+    rt: &P,
     rule: u32,
     table: &[u8],
     states: &mut [u8],
@@ -249,38 +265,38 @@ fn call(
     told: bool,
 ) {
     if rests {
-        print_rest(step::rest(rule, table, states, words, causes, budget));
-        print_lent(states, causes, told);
+        print_rest(rt, step::rest(rule, table, states, words, causes, budget));
+        print_lent(rt, states, causes, told);
         return;
     }
-    print_outcome(step::step(rule, table, states, words, causes));
-    print_lent(states, causes, told);
+    print_outcome(rt, step::step(rule, table, states, words, causes));
+    print_lent(rt, states, causes, told);
 }
 
 // What a call leaves.
-fn print_lent(states: &[u8], causes: &[u8], told: bool) {
-    print_shown(states);
+fn print_lent<P: Print>(rt: &P, states: &[u8], causes: &[u8], told: bool) {
+    print_shown(rt, states);
     if told {
-        print_shown(causes);
+        print_shown(rt, causes);
     }
-    end_line();
+    end_line(rt);
 }
 
-fn run_bound(line: &[u8]) {
+fn run_bound<P: Print>(rt: &P, line: &[u8]) {
     let mut space = io::buffer();
     let n = bytes_of(field(line, 1), &mut space);
     let mut words = io::buffer();
     let k = bytes_of(field(line, 2), &mut words);
-    print_bound(bound::bound(&space[..n], &words[..k]));
-    end_line();
+    print_bound(rt, bound::bound(&space[..n], &words[..k]));
+    end_line(rt);
 }
 
-fn run_judge(line: &[u8]) {
+fn run_judge<P: Print>(rt: &P, line: &[u8]) {
     let mut space = io::buffer();
     let n = bytes_of(field(line, 2), &mut space);
     let mut steps = record_buffer();
     let m = bytes_of(field(line, 3), &mut steps);
-    print_verdict(record::check(rule_of(line), &space[..n], &steps[..m]));
+    print_verdict(rt, record::check(rule_of(line), &space[..n], &steps[..m]));
 }
 
 // Room for the header and one step too many of a record of one plan.
@@ -291,99 +307,108 @@ fn record_buffer() -> [u8; 327688]
 }
 
 // Lends a table and an output to the move of a table, to version 2 or to version 1.
-fn run_move(line: &[u8], up: bool) {
+fn run_move<P: Print>(rt: &P, line: &[u8], up: bool) {
     let mut space = io::buffer();
     let n = bytes_of(field(line, 1), &mut space);
     let mut output = io::buffer();
     let m = bytes_of(field(line, 2), &mut output);
-    move_table(&space[..n], &mut output[..m], up);
+    move_table(rt, &space[..n], &mut output[..m], up);
 }
 
-fn move_table(table: &[u8], output: &mut [u8], up: bool) {
+fn move_table<P: Print>(rt: &P, table: &[u8], output: &mut [u8], up: bool) {
     if up {
-        print_answer(versions::to_version_2(table, output));
-        print_left(output);
+        print_answer(rt, versions::to_version_2(table, output));
+        print_left(rt, output);
         return;
     }
-    print_answer(versions::to_version_1(table, output));
-    print_left(output);
+    print_answer(rt, versions::to_version_1(table, output));
+    print_left(rt, output);
 }
 
-fn print_left(lent: &[u8]) {
-    print_shown(lent);
-    end_line();
+fn print_left<P: Print>(rt: &P, lent: &[u8]) {
+    print_shown(rt, lent);
+    end_line(rt);
 }
 
-fn print_shown(lent: &[u8]) {
-    print(b" ");
-    print_bytes(lent);
+fn print_shown<P: Print>(rt: &P, lent: &[u8]) {
+    print(rt, b" ");
+    print_bytes(rt, lent);
 }
 
-fn print_bytes(s: &[u8]) {
+fn print_bytes<P: Print>(rt: &P, s: &[u8]) {
     let mut i = 0;
     while i < s.len() {
-        io::print_hex(STDOUT_FILENO, wide(s[i]), 2);
+        print_hex(rt, wide(s[i]));
         i += 1;
     }
+}
+
+// Two digits.
+fn print_hex<P: Print>(rt: &P, x: u64) {
+    let mut digits = [0u8; 16];
+    let k = io::hex(x, 2, &mut digits);
+    print(rt, &digits[..k]);
 }
 
 fn wide(x: u8) -> u64 {
     x as u64
 }
 
-fn print_number(x: u64) {
-    print(b" ");
-    io::print_decimal(STDOUT_FILENO, x);
+fn print_number<P: Print>(rt: &P, x: u64) {
+    print(rt, b" ");
+    let mut digits = [0u8; 20];
+    let k = io::decimal(x, &mut digits);
+    print(rt, &digits[..k]);
 }
 
-fn print_verdict(v: Verdict) {
-    print_answer(v);
-    end_line();
+fn print_verdict<P: Print>(rt: &P, v: Verdict) {
+    print_answer(rt, v);
+    end_line(rt);
 }
 
-fn print_answer(v: Verdict) {
+fn print_answer<P: Print>(rt: &P, v: Verdict) {
     match v {
         Verdict::Accepted(n) => {
-            print(b"accepted");
-            print_number(n as u64);
+            print(rt, b"accepted");
+            print_number(rt, n as u64);
         }
-        Verdict::Refused(why) => print_refusal(why),
+        Verdict::Refused(why) => print_refusal(rt, why),
     }
 }
 
-fn print_outcome(o: Outcome) {
+fn print_outcome<P: Print>(rt: &P, o: Outcome) {
     match o {
-        Outcome::Done => print(b"done"),
-        Outcome::Refused(why) => print_refusal(why),
+        Outcome::Done => print(rt, b"done"),
+        Outcome::Refused(why) => print_refusal(rt, why),
     }
 }
 
-fn print_rest(r: Rest) {
+fn print_rest<P: Print>(rt: &P, r: Rest) {
     match r {
         Rest::Rested(k) => {
-            print(b"rested");
-            print_number(k as u64);
+            print(rt, b"rested");
+            print_number(rt, k as u64);
         }
-        Rest::Moving => print(b"moving"),
-        Rest::Refused(why) => print_refusal(why),
+        Rest::Moving => print(rt, b"moving"),
+        Rest::Refused(why) => print_refusal(rt, why),
     }
 }
 
-fn print_bound(b: Figure) {
+fn print_bound<P: Print>(rt: &P, b: Figure) {
     match b {
         Figure::Within(k) => {
-            print(b"within");
-            print_number(k as u64);
+            print(rt, b"within");
+            print_number(rt, k as u64);
         }
-        Figure::Unknown => print(b"unknown"),
-        Figure::Refused(why) => print_refusal(why),
+        Figure::Unknown => print(rt, b"unknown"),
+        Figure::Refused(why) => print_refusal(rt, why),
     }
 }
 
-fn print_refusal(why: Refusal) {
+fn print_refusal<P: Print>(rt: &P, why: Refusal) {
     let place = places::place(why);
-    print(b"refused");
-    print_number(place.number as u64);
-    print_number(place.step as u64);
-    print_number(place.plan as u64);
+    print(rt, b"refused");
+    print_number(rt, place.number as u64);
+    print_number(rt, place.step as u64);
+    print_number(rt, place.plan as u64);
 }
