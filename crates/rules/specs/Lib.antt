@@ -42,7 +42,6 @@ pub mod Words
 pub mod Step
 pub mod HandedIn
 pub mod Rest
-pub mod Stored
 pub mod Record
 pub mod Answers
 pub mod SubTree

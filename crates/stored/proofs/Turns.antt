@@ -12,7 +12,7 @@ use borrow.Author.Tests.{le-leb, lt-leb}
 use Rattle.rules.specs.Lists.{some_below, map_below, join_below}
 use Rattle.rules.specs.Bytes.{byte_at}
 use Rattle.rules.specs.States.{state_of}
-use Rattle.rules.specs.Stored.{state_byte, since_at, states_in, eight_bytes, since_after, stamped}
+use Rattle.stored.specs.Stored.{state_byte, since_at, states_in, eight_bytes, since_after, stamped}
 use Rattle.rules.proofs.Below.{some_below_lem}
 use Rattle.output.specs.Output.{Appended}
 use Rattle.output.proofs.Pieces.{none_yet, and_then, and_byte, as_one}

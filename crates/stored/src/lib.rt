@@ -1,5 +1,5 @@
 // A plan's state as a call lends it, of eight bytes (document 02 (x)): takes the states out, a byte each, looks for a filler byte that is
-// not 0 and for a number that a step may not have, and lays down what a step leaves. `Stored` of crates/rules/specs has the layout, which
+// not 0 and for a number that a step may not have, and lays down what a step leaves. `Stored` of specs/ has the layout, which
 // only this crate's code knows too. Each function costs O(n) for n plans; nothing is allocated. Assumes that there are eight bytes for each
 // plan, as who calls has looked at the length.
 #![tactic(auto)]
@@ -7,7 +7,7 @@
 ghost use Rattle.std.specs.Prelude.{◌≡◌, cond, ◌+◌, ◌*◌, ◌≤◌, leb, length};
 ghost use Rattle.rules.specs.Lists.{some_below};
 ghost use Rattle.rules.specs.States.{state_of};
-ghost use Rattle.rules.specs.Stored.{state_byte, filled, since_at, states_in, eight_bytes, enters, since_after, stamped};
+ghost use Rattle.stored.specs.Stored.{state_byte, filled, since_at, states_in, eight_bytes, enters, since_after, stamped};
 ghost use Rattle.lowest.specs.Lowest.{Lowest};
 ghost use Rattle.output.specs.Output.{Appended};
 

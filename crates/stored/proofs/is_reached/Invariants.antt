@@ -1,6 +1,6 @@
 -- `is_reached` meets its contract: the plans that are passed have stored lower numbers. Assumes nothing.
 use Rattle.std.proofs.Common.{◌-◌, ◌≡◌, ◌≤◌, leb, ℕ, ◌<◌, false}
-use Rattle.rules.specs.Stored.{since_at}
+use Rattle.stored.specs.Stored.{since_at}
 use Rattle.stored.proofs.is_reached.Given as goal
 
 abbrev pub invariant-loop-p : goal.invariant-loop-p

@@ -1,6 +1,6 @@
 -- `lowest_filled` meets its contract: no plan that is passed has such a byte. Assumes nothing.
 use Rattle.std.proofs.Common.{◌-◌, ◌≡◌, ◌≤◌, ℕ, ◌<◌, false}
-use Rattle.rules.specs.Stored.{filled}
+use Rattle.stored.specs.Stored.{filled}
 use Rattle.stored.proofs.lowest_filled.Given as goal
 
 abbrev pub invariant-loop-p : goal.invariant-loop-p

@@ -1,6 +1,6 @@
 -- `stamp` meets its contract: a turn lays down one plan more. Assumes nothing.
 use Rattle.std.proofs.Common.{◌≡◌, ◌*◌, length}
-use Rattle.rules.specs.Stored.{stamped}
+use Rattle.stored.specs.Stored.{stamped}
 use Rattle.output.specs.Output.{Appended}
 use Rattle.stored.proofs.stamp.Given as goal
 

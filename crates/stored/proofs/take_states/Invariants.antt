@@ -1,6 +1,6 @@
 -- `take_states` meets its contract: state by state. Assumes nothing.
 use Rattle.std.proofs.Common.{◌≡◌, length}
-use Rattle.rules.specs.Stored.{states_in}
+use Rattle.stored.specs.Stored.{states_in}
 use Rattle.output.specs.Output.{Appended}
 use Rattle.stored.proofs.take_states.Given as goal
 
