@@ -17,15 +17,23 @@ use text::Input;
 // Stands where nothing was said: no number of a text is this one.
 const UNSAID: u64 = 0x8000_0000_0000_0001;
 
-fn main() {
+fn main(rt: HostRuntime) {
     let mut input = text::buffer();
-    let Input::Whole(n) = text::read_input(&mut input) else {
-        text::complain(b"aptime: standard input cannot be read; nothing is answered\n");
+    let Input::Whole(n) = text::read_input(&mut rt.stdin(), &mut input) else {
+        text::complain(
+            &mut rt.stderr(),
+            b"aptime: standard input cannot be read; nothing is answered\n",
+        );
         return;
     };
     let mut out = [0u8; 512];
     let end = report(&input[..n], &mut out);
-    text::write(&out[..end], b"aptime: standard output cannot be written\n");
+    text::write(
+        &mut rt.stdout(),
+        &mut rt.stderr(),
+        &out[..end],
+        b"aptime: standard output cannot be written\n",
+    );
 }
 
 // Puts the answer to an input at the start of `out`, and answers where it ends.
