@@ -63,7 +63,7 @@ pub fn table_size(table: &[u8]) -> usize
 }
 
 // The rules of checks 7 and 8, and of check 9 in version 1.
-#[derive(Drop)]
+#[derive(Clone, Copy)]
 pub enum Rule {
     Undefined,
     Unfit,

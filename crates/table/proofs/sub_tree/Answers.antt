@@ -1,0 +1,11 @@
+-- `sub_tree` meets its contract: a table that is refused has no sub trees. Assumes nothing.
+use Rattle.std.proofs.Common.{sym, ◌∙◌}
+use Rattle.rules.proofs.Tree.{was_done, was_refused}
+use Rattle.table.proofs.SubTrees.{none_of_refused}
+use Rattle.table.proofs.sub_tree.Goals as goal
+
+pub part-requires : goal.part-requires
+part-requires c = was_done _ _ (sym c.check_table.ensures ∙ c.in-Accepted.is)
+
+pub returns-in-Refused : goal.returns-in-Refused
+returns-in-Refused c = sym (none_of_refused _ _ _ _ (was_refused _ _ (sym c.check_table.ensures ∙ c.in-Refused.is)))

@@ -1,0 +1,21 @@
+-- `waits_check` meets its contract: of version 2 the formulas are checked, of version 1 the wait numbers. Assumes nothing.
+use Rattle.std.proofs.Common.{◌≡◌, true, sym, ◌∙◌}
+use Rattle.rules.specs.WaitFor.{first_version}
+use Rattle.lowest.proofs.Lowest.{lowest_as}
+use Rattle.table.proofs.Reading.{found_at, found_none, waits_by_number, waits_wait, waits_done}
+use Rattle.table.proofs.waits_check.Goals as goal
+
+-- version 1: what the search for a wait number found
+pub returns-then-wait-n : goal.returns-then-wait-n
+returns-then-wait-n c =
+    let t = c.args.table.now in
+    let first : first_version t ≡ true = sym c.is_first_version.ensures ∙ c.if-not-is_first_version.false in
+    let found = lowest_as _ _ _ _ (waits_by_number t first) c.lowest_breaking-wait.ensures in
+    sym (waits_wait t first _ (found_at t _ c.requires.whole _ _ found c.if-wait-n.true))
+
+pub returns : goal.returns
+returns c =
+    let t = c.args.table.now in
+    let first : first_version t ≡ true = sym c.is_first_version.ensures ∙ c.if-not-is_first_version.false in
+    let found = lowest_as _ _ _ _ (waits_by_number t first) c.lowest_breaking-wait.ensures in
+    sym (waits_done t first (found_none t _ c.requires.whole _ _ found c.if-wait-n.false))
