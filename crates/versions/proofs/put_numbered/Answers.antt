@@ -1,0 +1,34 @@
+-- `put_numbered` meets its contract: a turn puts one plan more, with the number of its node. Assumes nothing.
+use Rattle.std.proofs.Common.{refl, ◌∙◌, arith}
+use Rattle.versions.specs.Versions.{nodes_before}
+use Rattle.versions.proofs.Laid.{nodes_within}
+use Rattle.versions.proofs.Turns.{next_count, no_plans, next_plan}
+use Rattle.versions.proofs.put_numbered.Goals as goal
+
+pub loop-p-init : goal.loop-p-init
+unfolding nodes_before
+loop-p-init c = (omega arith, refl, refl, no_plans _ _)
+
+-- a node's number fits a byte
+pub overflow_cast-nodes : goal.overflow_cast-nodes
+overflow_cast-nodes c = omega (arith, c.loop-p.invariant.2, nodes_within c.args.table.now c.loop-p.p, c.requires.0.small)
+
+pub overflow_add-nodes : goal.overflow_add-nodes
+overflow_add-nodes c =
+    omega (
+      arith,
+      c.loop-p.invariant.2,
+      nodes_within c.args.table.now c.loop-p.p,
+      c.requires.0.small,
+      c.own_nodes-nodes.ensures.1,
+    )
+
+pub loop-p-preserved : goal.loop-p-preserved
+loop-p-preserved c =
+    let table = c.args.table.now in (
+      omega arith,
+      c.put_plan-nodes.auto.output ∙ c.loop-p.invariant.1,
+      omega (arith, c.loop-p.invariant.2, c.own_nodes-nodes.ensures.0, next_count table c.loop-p.p),
+      next_plan _ (nodes_before table) _ _ _ (omega (arith, c.requires.0.room)) c.loop-p.invariant.2 c.loop-p.invariant.3
+          c.put_plan-nodes.ensures,
+    )
