@@ -1,0 +1,30 @@
+-- `check_call` meets its contract: the rule number's check, then the table's, then those of what is lent with it. Assumes nothing.
+use Rattle.std.proofs.Common.{sym, ap, ◌∙◌, not, arith}
+use Rattle.rules.proofs.Outcomes.{rule_stops, rule_passes}
+use Rattle.rules.proofs.Tree.{passes}
+use Rattle.lent.proofs.Calls.{call_unruled, call_refused, call_lent}
+use Rattle.lent.proofs.check_call.Goals as goal
+
+pub returns-then-not-is_rule : goal.returns-then-not-is_rule
+returns-then-not-is_rule c = call_unruled _ _ _ _ _ _ _ _ _ (rule_stops _ c.is_rule.ensures (ap not c.if-not-is_rule.true))
+
+pub returns-in-Refused : goal.returns-in-Refused
+returns-in-Refused c =
+    let ruled = rule_passes _ c.is_rule.ensures (ap not c.if-not-is_rule.false) in
+    call_refused _ _ _ _ _ _ _ _ ruled _ (sym c.read_table.ensures.is ∙ c.in-Refused.is)
+
+pub check_lent-requires : goal.check_lent-requires
+check_lent-requires c =
+    let facts = c.read_table.ensures.facts c.in-Done.is in
+    let done = sym c.read_table.ensures.is ∙ c.in-Done.is in
+    record {
+      done = done;
+      room = omega (arith, c.requires.counts_room (passes _ done).header);
+      counted = facts.counted;
+    }
+
+pub returns-in-Done : goal.returns-in-Done
+returns-in-Done c =
+    let ruled = rule_passes _ c.is_rule.ensures (ap not c.if-not-is_rule.false) in
+    let done = sym c.read_table.ensures.is ∙ c.in-Done.is in
+    call_lent _ _ _ _ _ _ _ _ ruled _ done (c.read_table.ensures.facts c.in-Done.is) c.check_lent.ensures

@@ -1,0 +1,38 @@
+-- `check_lent` meets its contract: where each check stops. Assumes nothing.
+use Rattle.std.proofs.Common.{sym, ◌∙◌, arith}
+use Rattle.rules.proofs.Tree.{passes, tree}
+use Rattle.lent.proofs.Calls.{stops_at_lengths, agreed, stops_at_state, only_words, rooted, counted}
+use Rattle.lent.proofs.check_lent.Goals as goal
+
+pub u16_at-n-requires : goal.u16_at-n-requires
+u16_at-n-requires c = omega (arith, (passes _ c.requires.done).long)
+
+pub returns-then-states-n : goal.returns-then-states-n
+returns-then-states-n c = sym (stops_at_lengths _ _ _ _ _ c.u16_at-n.ensures c.if-states-n.true)
+
+pub lowest_bad_state-state-requires : goal.lowest_bad_state-state-requires
+lowest_bad_state-state-requires c =
+    let done = c.requires.done in
+    let whole = c.u16_at-n.ensures in
+    let long = agreed c.args.table.now c.args.states.now c.args.words.now c.args.causes.now _ whole c.if-states-n.false in
+    record {
+      rooted = rooted _ done _ whole;
+      whole = whole;
+      some = omega (arith, whole, (tree _ (passes _ done)).some);
+      states_room = omega (arith, long.0);
+    }
+
+pub returns-then-state-n : goal.returns-then-state-n
+returns-then-state-n c =
+    sym (stops_at_state _ _ _ _ _ c.u16_at-n.ensures c.if-states-n.false _ c.lowest_bad_state-state.ensures c.if-state-n.true)
+
+pub check_words-requires : goal.check_words-requires
+check_words-requires c =
+    let whole = c.u16_at-n.ensures in
+    let long = agreed c.args.table.now c.args.states.now c.args.words.now c.args.causes.now _ whole c.if-states-n.false in
+    counted _ _ _ c.requires _ whole long.1
+
+pub returns : goal.returns
+returns c =
+    c.check_words.ensures
+    ∙ sym (only_words _ _ _ _ _ c.u16_at-n.ensures c.if-states-n.false _ c.lowest_bad_state-state.ensures c.if-state-n.false)
