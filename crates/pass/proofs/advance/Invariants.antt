@@ -1,0 +1,13 @@
+-- What `advance` keeps: the plans passed have moved, in table order, and nothing behind them is written.
+use Rattle.std.proofs.Common.{◌≡◌, take}
+use Rattle.rules.specs.Step.{chosen, step_first}
+use Rattle.children.specs.Sets.{Beyond}
+use Rattle.family.specs.StepFacts.{picks_of}
+use Rattle.pass.proofs.advance.Given as goal
+
+abbrev pub invariant-loop-p : goal.invariant-loop-p
+invariant-loop-p l =
+    record {
+      moved : take l.p l.new ≡ step_first l.rule l.table l.old l.words (chosen l.table l.old (picks_of l.picks)) l.p;
+      rest : Beyond l.p l.initial.new l.new;
+    }
