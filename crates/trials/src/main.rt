@@ -219,7 +219,10 @@ fn run_sub_tree<P: Print>(rt: &P, line: &[u8]) {
     let n = bytes_of(field(line, 1), &mut space);
     let mut states = io::buffer();
     let m = bytes_of(field(line, 2), &mut states);
-    print_bytes(rt, table::sub_tree(&space[..n], &states[..m], number_of(field(line, 3))));
+    print_bytes(
+        rt,
+        table::sub_tree(&space[..n], &states[..m], number_of(field(line, 3))),
+    );
     end_line(rt);
 }
 
