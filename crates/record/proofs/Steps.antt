@@ -1,6 +1,6 @@
 -- Laws of one step of a record: where it lies, what the plans' moves read in it, and what is judged when it stops the search. Assumes
 -- nothing.
-use Prim.Native.Nat.{ℕ, zero, suc, ◌+◌, ◌*◌, ◌-◌, ◌≤◌, ◌<◌}
+use Prim.Native.Nat.{ℕ, zero, suc, ◌+◌, ◌*◌, ◌≤◌, ◌<◌}
 use native.Mathlib.Omega.{arith}
 use native.Mathlib.Numerals.{add-one}
 use mathlib.Core.Path.{◌≡◌, refl, sym, ap, ◌∙◌}
@@ -18,7 +18,7 @@ use Rattle.rules.specs.Step.{step_under}
 use Rattle.rules.specs.Record.{step_count, words_of, states_of, states_before, ExplainedFirst}
 use Rattle.rules.specs.Answers.{bad_record_word, table_check, record_check, words_check, StepPasses, Judged, bad_words, unexplained, accepted}
 use Rattle.rules.specs.declared.Refusal.TheVariants.{Word, Unexplained}
-use Rattle.rules.specs.declared.Outcome.TheVariants.{Done, Refused}
+use Rattle.rules.specs.declared.Outcome.TheVariants.{Done}
 use Rattle.rules.specs.declared.Verdict.TheVariants as verdict
 use Rattle.rules.specs.declared.PlanState.TheVariants.{Inactive}
 use Rattle.rules.proofs.Outcomes.{pass_at_last, stop_at_last}
