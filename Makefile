@@ -1,7 +1,7 @@
 # make            proves and builds: the archive target/libasbru.a, the programs aprcheck, aptmove and aptime, and what ./check runs
 # make check      the examples and the command's own tests: seconds, once all is built
 # make install    the header, its companion, the archive, asbru.pc and the rules in words, under PREFIX (and DESTDIR)
-# make test       the gate: everything proved from nothing, every must-fail edit, all hosts
+# make test       the gate: everything proved, every must-fail edit refused, all hosts
 SHELL := bash
 .SHELLFLAGS := -euo pipefail -c
 PREFIX ?= /usr/local

@@ -144,17 +144,17 @@ told_of_step rule t s w choice new p is =
 
 -- from what the code has in hand: of a plan that stays, and of one that moved
 module _
-    (t s w new : List ℕ) (p : ℕ) (was state : PlanState) (old_is : was ≡ state_at s p) (NewIs : state ≡ state_at new p)
+    (t s w new : List ℕ) (p : ℕ) (was state : PlanState) (old_is : was ≡ state_at s p) (new_is : state ≡ state_at new p)
     (b : Bool) (test : b ≡ is was state) where
   pub told_stays : b ≡ true → Unmoved ≡ cause_told t s w new p
   unfolding cause_told
-  told_stays h = rw (← old_is, ← NewIs, ← test, h) refl
+  told_stays h = rw (← old_is, ← new_is, ← test, h) refl
 
   pub told_moves :
       b ≡ false → (up : PlanState) (aborts : Bool) (cause : Cause) → up ≡ parent_state t new p → aborts ≡ holds Abort (entry t p) (word w p)
       → cause ≡ cause_of_move up aborts was state → cause ≡ cause_told t s w new p
   unfolding cause_told
-  told_moves h up aborts cause e f g = g ∙ rw (← old_is, ← NewIs, ← test, h, e, f) refl
+  told_moves h up aborts cause e f g = g ∙ rw (← old_is, ← new_is, ← test, h, e, f) refl
 
 -- of a plan whose state is as it was, and of no other, it is told that it is unmoved
 itself : (state : PlanState) (cause : Cause) → cond (is state state) Unmoved cause ≡ Unmoved

@@ -2,15 +2,32 @@
 use Prim.Native.Nat.{ℕ, zero, suc, ◌+◌, ◌*◌, ◌≤◌, ◌<◌}
 use native.Mathlib.Omega.{arith}
 use mathlib.Core.Path.{◌≡◌, refl, sym}
-use mathlib.Core.List.{List}
+use mathlib.Core.Bool.{Bool, false, ◌||◌}
+use mathlib.Core.List.{List, [], ◌∷◌}
+use denote.Enum.Declared.{tag_of}
+use types.Run.{OneOf, miss}
 use lib.ListN.{length}
 use Rattle.rules.specs.Bytes.{byte_at}
-use Rattle.rules.specs.States.{state_of, state_at}
+use Rattle.rules.specs.States.{code, state_of, state_at, is, in_selection, ended}
 use Rattle.rules.specs.Table.{plan_count, parent, entry}
 use Rattle.rules.specs.Words.{word}
-use Rattle.rules.specs.Step.{the_state, move, too_many_lost, children_complete, moved_by, new_by, new_state}
+use Rattle.rules.specs.Step.{move_by, the_state, move, too_many_lost, children_complete, moved_by, new_by, new_state}
 use Rattle.rules.specs.declared.Cause.{Cause}
+use Rattle.rules.specs.declared.PlanEntry.{PlanEntry}
+use Rattle.rules.specs.declared.Orders.{Orders}
 use Rattle.rules.specs.declared.PlanState.{PlanState}
+use Rattle.rules.specs.declared.PlanState.TheVariants.{
+  Inactive,
+  Considered,
+  Possible,
+  Ready,
+  Activated,
+  Suspended,
+  Completed,
+  Aborted,
+  Rejected,
+}
+use Rattle.rules.specs.contracts.PlanState as declared
 use Rattle.rules.proofs.Codes.{state_is}
 use Rattle.family.specs.OrdersAt.{orders_at}
 use Rattle.family.specs.StepFacts.{StepFacts, Names}
@@ -38,6 +55,25 @@ module _ (t s w : List ℕ) (choice : ℕ → ℕ) where
       → new_state rule t s w choice new p
       ≡ move up (orders_at t s w choice up p) (entry t p) (word w p) (too_many_lost t s rule p) (children_complete t s p) old
   as_move rule new p up old eu eo = rw (eu, eo) (new_by_lem the_state rule new p)
+
+-- under a parent in execution a Completed or Rejected plan stays
+abbrev over_keys : List ℕ
+over_keys = code Completed ∷ code Rejected ∷ []
+
+module _
+    (up : PlanState) (o : Orders) (e : PlanEntry) (x : ℕ) (lost complete : Bool)
+    (begun : (is Inactive up || in_selection up) ≡ false) (going_on : ended up ≡ false) where
+  pub over_stays : (old : PlanState) → OneOf over_keys (tag_of declared.the_type old) → move up o e x lost complete old ≡ old
+  unfolding move_by
+  over_stays Inactive h = absurd (miss over_keys 0 tt h)
+  over_stays Considered h = absurd (miss over_keys 1 tt h)
+  over_stays Possible h = absurd (miss over_keys 2 tt h)
+  over_stays Ready h = absurd (miss over_keys 3 tt h)
+  over_stays Activated h = absurd (miss over_keys 4 tt h)
+  over_stays Suspended h = absurd (miss over_keys 5 tt h)
+  over_stays Completed h = rw (begun, going_on) refl
+  over_stays Aborted h = absurd (miss over_keys 7 tt h)
+  over_stays Rejected h = rw (begun, going_on) refl
 
 -- all that the move of a plan reads, from what is known of all plans
 pub move_facts :

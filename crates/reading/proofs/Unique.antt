@@ -7,11 +7,11 @@ use Rattle.reading.proofs.word_at.Reads as word_at
 use Rattle.reading.proofs.is_first_version.Reads as is_first_version
 use Rattle.reading.proofs.plan_count.Reads as plan_count
 use Rattle.reading.proofs.node_count.Reads as node_count
-use Rattle.reading.proofs.node_at.Reads as NodeAt
-use Rattle.reading.proofs.u16_at.Reads as u16-at
-use Rattle.reading.proofs.u32_at.Reads as u32-at
+use Rattle.reading.proofs.node_at.Reads as node_at
+use Rattle.reading.proofs.u16_at.Reads as u16_at
+use Rattle.reading.proofs.u32_at.Reads as u32_at
 use Rattle.reading.proofs.byte_at.Reads as byte_at
-use Rattle.reading.proofs.u16_within.Reads as u16-within
+use Rattle.reading.proofs.u16_within.Reads as u16_within
 
 -- every function of this crate
 pub reading_once :
@@ -22,11 +22,11 @@ pub reading_once :
     × OneAnswer is_first_version.Post
     × OneAnswer plan_count.Post
     × OneAnswer node_count.Post
-    × OneAnswer NodeAt.Post
-    × OneAnswer u16-at.Post
-    × OneAnswer u32-at.Post
+    × OneAnswer node_at.Post
+    × OneAnswer u16_at.Post
+    × OneAnswer u32_at.Post
     × OneAnswer byte_at.Post
-    × OneAnswer u16-within.Post
+    × OneAnswer u16_within.Post
 reading_once = (
   by_equation,
   by_equation,

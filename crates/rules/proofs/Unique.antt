@@ -6,7 +6,7 @@ use Rattle.rules.proofs.PlanState.to_byte.Reads as to_byte
 use Rattle.rules.proofs.PlanState.from_byte.Reads as from_byte
 use Rattle.rules.proofs.PlanState.is.Reads as is_it
 use Rattle.rules.proofs.PlanState.in_selection.Reads as in_selection
-use Rattle.rules.proofs.PlanState.in_execution.Reads as in_execution_lem
+use Rattle.rules.proofs.PlanState.in_execution.Reads as in_execution
 use Rattle.rules.proofs.PlanState.is_ended.Reads as is_ended
 use Rattle.rules.proofs.PlanState.has_run.Reads as has_run
 use Rattle.rules.proofs.Cause.to_byte.Reads as cause_to_byte
@@ -21,7 +21,7 @@ use Rattle.rules.proofs.PlanEntry.retries_aborted.Reads as retries_aborted
 use Rattle.rules.proofs.PlanEntry.waits_for_optional.Reads as waits_for_optional
 use Rattle.rules.proofs.PlanEntry.is_named.Reads as is_named
 use Rattle.rules.proofs.PlanEntry.wait_for.Reads as wait_for
-use Rattle.rules.proofs.at_least.Reads as at_least_lem
+use Rattle.rules.proofs.at_least.Reads as at_least
 use Rattle.rules.proofs.Joint.join.Reads as join
 use Rattle.rules.proofs.Node.asks.Reads as asks
 use Rattle.rules.proofs.is_rule.Reads as is_rule
@@ -43,7 +43,7 @@ by_equation = record { once = λ κs a z z' e e' h h'. one_answer h h' }
 -- the functions of a plan's state, and that of a cause
 pub states_once :
     OneAnswer to_byte.Post × OneAnswer from_byte.Post × OneAnswer is_it.Post × OneAnswer in_selection.Post
-    × OneAnswer in_execution_lem.Post × OneAnswer is_ended.Post × OneAnswer has_run.Post × OneAnswer cause_to_byte.Post
+    × OneAnswer in_execution.Post × OneAnswer is_ended.Post × OneAnswer has_run.Post × OneAnswer cause_to_byte.Post
 states_once = (by_equation, by_equation, by_equation, by_equation, by_equation, by_equation, by_equation, by_equation)
 
 -- those of a body, a condition, a bit and an input word
@@ -66,7 +66,7 @@ pub entries_once :
 entries_once = (by_equation, by_equation, by_equation, by_equation, by_equation, by_equation, by_equation)
 
 -- those of a node of a formula
-pub nodes_once : OneAnswer at_least_lem.Post × OneAnswer join.Post × OneAnswer asks.Post
+pub nodes_once : OneAnswer at_least.Post × OneAnswer join.Post × OneAnswer asks.Post
 nodes_once = (by_equation, by_equation, by_equation)
 
 -- and that of a rule number
