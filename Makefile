@@ -17,17 +17,17 @@ all: judge target/made/aptmove target/made/aptime
 # what ./check runs
 judge: target/libasbru.a target/made/aprcheck target/host/check
 
-# `rt` proves what has changed: its line for each crate is shown, and all that it says where it fails. It builds a program as it runs it, and
-# no crate is checked by two at once
+# `rt`, in a crate's folder, proves what has changed there and below: its line for each crate is shown, and all that it says where it fails. It
+# builds a program as it runs it, and no crate is checked by two at once
 .NOTPARALLEL:
 programs := target/made/aprcheck target/made/aptmove target/made/aptime target/made/trials
 target/libasbru.a $(programs): $(proved)
 	@mkdir -p target/made
-	@$(rt) 2>&1 </dev/null | tee target/made/log | { grep '^rt: ' || true; } || { cat target/made/log >&2; exit 1; }
+	@(cd $(rt)) 2>&1 </dev/null | tee target/made/log | { grep '^rt: ' || true; } || { cat target/made/log >&2; exit 1; }
 	@$(made)
-target/libasbru.a: rt = rt lib tablet
+target/libasbru.a: rt = crates/tablet && rt lib
 target/libasbru.a: made = cp crates/tablet/out/libtablet.a $@
-$(programs): rt = rt run $(@F)
+$(programs): rt = crates/$(@F) && rt run
 $(programs): made = touch $@
 
 target/host/check: host/check.c host/files.h host/machine include/asbru.h include/asbru_text.h target/libasbru.a
