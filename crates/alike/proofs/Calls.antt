@@ -4,7 +4,7 @@ use native.Mathlib.Omega.{arith}
 use mathlib.Core.Bool.{Bool, true, false}
 use mathlib.Core.Path.{◌≡◌, refl, ◌∙◌, ap}
 use mathlib.Core.List.{List}
-use Rattle.rules.specs.Lists.{least_from, least, Found, At}
+use Rattle.rules.specs.Lists.{least_from, least}
 use Rattle.rules.specs.Table.{plan_count, parent}
 use Rattle.rules.specs.HandedIn.{bad_state}
 use Rattle.rules.specs.Rest.{after, settled, least_rest, steps_taken, last_causes}
@@ -12,6 +12,7 @@ use Rattle.rules.specs.Answers.{bad_word, bad_record_word, lent_check}
 use Rattle.rules.proofs.Tree.{Tree}
 use Rattle.alike.proofs.Alike.{Alike, same_parent, same_children}
 use Rattle.alike.proofs.Steps.{same_body, same_again, parent_within, same_by_words, same_causes}
+use Rattle.std.specs.Prelude.{Option, Some}
 
 -- tests that agree have the same least number that passes
 module _ (f g : ℕ → Bool) where
@@ -19,8 +20,8 @@ module _ (f g : ℕ → Bool) where
   unfolding least_from
   same_from p zero agree = refl
   same_from p (suc k) agree =
-      ap (λ (b : Bool). elim b as (λ _. Found) [ true ↦ At p | false ↦ least_from f (p + 1) k ]) (agree p (omega arith) (omega arith))
-      ∙ ap (λ (z : Found). elim (g p) as (λ _. Found) [ true ↦ At p | false ↦ z ])
+      ap (λ (b : Bool). elim b as (λ _. Option ℕ) [ true ↦ Some p | false ↦ least_from f (p + 1) k ]) (agree p (omega arith) (omega arith))
+      ∙ ap (λ (z : Option ℕ). elim (g p) as (λ _. Option ℕ) [ true ↦ Some p | false ↦ z ])
       (same_from (p + 1) k (λ j l m. agree j (omega arith) (omega arith)))
 
   pub same_least : (n : ℕ) → ((p : ℕ) → p < n → f p ≡ g p) → least f n ≡ least g n

@@ -9,30 +9,9 @@ use lib.ListN.{length, take, drop}
 use lib.Dec.{eqb, ltb}
 use Rattle.rules.specs.Table.{plan_count}
 use Rattle.rules.specs.Step.{step, step_under}
-use Rattle.rules.specs.Answers.{
-  ◌and_then◌,
-  is_done,
-  rule_check,
-  table_check,
-  table_verdict,
-  call_check,
-  rest_answer,
-  step_answer,
-  step_states,
-  step_causes,
-  run_answer,
-  run_states,
-  run_causes,
-  record_check,
-  Judged,
-}
+use Rattle.rules.specs.Answers.{◌and_then◌, is_done, rule_check, table_check, table_verdict, call_check, rest_answer, step_answer, step_states, step_causes, run_answer, run_states, run_causes, record_check, Judged, Outcome, Verdict, Done}
 use Rattle.rules.specs.SubTree.{last_descendant, sub_tree}
 use Rattle.rules.specs.declared.Refusal.{Refusal}
-use Rattle.rules.specs.declared.Outcome.{Outcome}
-use Rattle.rules.specs.declared.Outcome.TheVariants.{Done, Refused}
-use Rattle.rules.specs.declared.Verdict.{Verdict}
-use Rattle.rules.specs.declared.Verdict.TheVariants as verdict
-use Rattle.rules.specs.declared.Rest.TheVariants as rest
 use Rattle.rules.proofs.Tree.{Tree, tree, passes as table_passes, accepted as table_accepted}
 use Rattle.rules.proofs.Outcomes.{then_next}
 use Rattle.rules.proofs.Verdicts.{still_judged}
@@ -42,10 +21,11 @@ use Rattle.alike.proofs.Steps.{same_under, same_by_words, same_causes}
 use Rattle.alike.proofs.Calls.{same_lent, same_rest, same_rest_states, same_rest_causes}
 use Rattle.alike.proofs.SubTrees.{same_last}
 use Rattle.alike.proofs.Records.{same_count, same_form, same_words_check, explains_first}
+use Rattle.std.specs.Prelude.{Ok, Err}
 
 -- what a call gives by its check
 abbrev by_check : {A : Type 0} → Outcome → A → (Refusal → A) → A
-by_check o done refused = elim o [ Done ↦ done | Refused why ↦ refused why ]
+by_check o done refused = elim o [ Ok tt ↦ done | Err why ↦ refused why ]
 
 same_by_check :
     {A : Type 0} {o o' : Outcome} {x x' : A} (refused : Refusal → A) → o ≡ o' → x ≡ x' → by_check o x refused ≡ by_check o' x' refused
@@ -81,7 +61,7 @@ module _ {t u : List ℕ} (a : Alike t u) (done : table_check t ≡ Done) (done'
 
   -- Reading the one table answers what reading the other does.
   pub same_table_verdict : table_verdict u ≡ table_verdict t
-  same_table_verdict = table_accepted u done' ∙ ap verdict.Accepted a.plans ∙ sym (table_accepted t done)
+  same_table_verdict = table_accepted u done' ∙ ap Ok a.plans ∙ sym (table_accepted t done)
 
   -- A call is refused under both tables, by the same number at the same place, or under neither; and it leaves the same states and causes.
   module _ (rule : ℕ) (s w c : List ℕ) where
@@ -102,7 +82,7 @@ module _ {t u : List ℕ} (a : Alike t u) (done : table_check t ≡ Done) (done'
     -- the run
     pub same_run_answer : (budget : ℕ) → run_answer rule u s w c budget ≡ run_answer rule t s w c budget
     unfolding run_answer
-    same_run_answer budget = same_by_check rest.Refused same_call_check (ap rest_answer (same_rest a shape rule s w budget))
+    same_run_answer budget = same_by_check Err same_call_check (ap rest_answer (same_rest a shape rule s w budget))
 
     pub same_run_states : (budget : ℕ) → run_states rule u s w c budget ≡ run_states rule t s w c budget
     unfolding run_states

@@ -1,8 +1,7 @@
 -- Document 02 (vi): two tables under which reading, steps, runs, sub trees and verdicts are the same. Assumes nothing.
 use Rattle.std.specs.Prelude.{ℕ, ◌≡◌, List}
-use Rattle.rules.specs.Answers.{table_verdict, step_answer, step_states, step_causes, run_answer, run_states, run_causes, Judged}
+use Rattle.rules.specs.Answers.{table_verdict, step_answer, step_states, step_causes, run_answer, run_states, run_causes, Judged, Verdict}
 use Rattle.rules.specs.SubTree.{sub_tree}
-use Rattle.rules.specs.declared.Verdict.{Verdict}
 
 -- Reading the table answers the same. By any rule number, from any states and words, a step answers the same and leaves the same states and
 -- causes; so does a run, within any budget. Every plan's sub tree shows the same of any states. The same verdicts are permitted on any

@@ -5,15 +5,14 @@ use mathlib.Core.List.{List}
 use lib.ListN.{length, take, drop}
 use borrow.Author.Tests.{le-leb, lt-leb}
 use Rattle.rules.specs.WaitFor.{table_size}
-use Rattle.rules.specs.Answers.{header_check, Judged}
+use Rattle.rules.specs.Answers.{header_check, Judged, Verdict, Done}
 use Rattle.rules.specs.Program.{table_length, Answered, judged}
 use Rattle.rules.specs.declared.Refusal.{Refusal}
-use Rattle.rules.specs.declared.Verdict.{Verdict}
-use Rattle.rules.specs.declared.Outcome.TheVariants.{Done, Refused}
 use borrow.Author.Rules.{part_to_end}
+use Rattle.std.specs.Prelude.{Err}
 
 module _ (input : List ℕ) where
-  pub all_of_refused : (why : Refusal) → header_check input ≡ Refused why → table_length input ≡ length input
+  pub all_of_refused : (why : Refusal) → header_check input ≡ Err why → table_length input ≡ length input
   unfolding table_length
   all_of_refused why e = simp e
 

@@ -9,7 +9,7 @@ ghost use Rattle.io.specs.Counts.{IsPrefixLen};
 ghost use Rattle.rules.specs.Table.{plan_count};
 ghost use Rattle.rules.specs.Program.{table_length, Answered, line, Printed};
 
-use rules::{Outcome, Refusal, Verdict};
+use rules::{Refusal};
 use text::Input;
 
 fn main(rt: HostRuntime) {
@@ -40,11 +40,11 @@ fn report(input: &[u8], out: &mut [u8; 128]) -> usize
 }
 
 // The verdict on an input, under rule 2: its length is looked at first.
-fn answer(input: &[u8]) -> Verdict
+fn answer(input: &[u8]) -> Result<u16, Refusal>
     ensures { Answered input.now result }
 {
     if 65536 < input.len() {
-        return Verdict::Refused(Refusal::InputLong);
+        return Err(Refusal::InputLong);
     }
     let k = table_length(input);
     record::check(2, &input[..k], &input[k..])
@@ -55,8 +55,8 @@ fn table_length(input: &[u8]) -> usize
     ensures { (result ≡ table_length input.now) × (result ≤ length input.now) }
 {
     match table::header_check(input) {
-        Outcome::Refused(_) => input.len(),
-        Outcome::Done => {
+        Err(_) => input.len(),
+        Ok(()) => {
             let whole = table::table_size(input);
             if whole <= input.len() {
                 whole
@@ -75,20 +75,20 @@ fn plan_count(input: &[u8]) -> u16
 }
 
 // Puts the line for a verdict on a table of n plans at the start of `out`, and answers where it ends.
-fn line_of(n: u16, verdict: Verdict, out: &mut [u8]) -> usize
+fn line_of(n: u16, verdict: Result<u16, Refusal>, out: &mut [u8]) -> usize
     requires { 128 ≤ length out.old }
     ensures { (result ≤ 128) × (take result out.new ≡ line n verdict) }
 {
     match verdict {
-        Verdict::Accepted(steps) => accepted_line(n, steps, out),
-        Verdict::Refused(why) => text::put_refusal(why, out, 0),
+        Ok(steps) => accepted_line(n, steps, out),
+        Err(why) => text::put_refusal(why, out, 0),
     }
 }
 
 // The line for a record of so many steps that is accepted.
 fn accepted_line(n: u16, steps: u16, out: &mut [u8]) -> usize
     requires { 128 ≤ length out.old }
-    ensures { (result ≤ 128) × (take result out.new ≡ line n (Verdict.Accepted steps)) }
+    ensures { (result ≤ 128) × (take result out.new ≡ line n (Ok steps)) }
 {
     let at = output::put(b"accepted ", out, 0);
     let at = text::put_number(n as u64, b' ', out, at);

@@ -6,7 +6,6 @@ use mathlib.Core.Path.{◌≡◌, sym, ap, ◌∙◌, subst}
 use mathlib.Core.List.{List}
 use contract.Lifetimes.{Lfts}
 use lib.ListN.{take}
-use Rattle.rules.specs.declared.Outcome.{Outcome}
 use Rattle.time.specs.declared.Judgement.{Judgement}
 use Rattle.time.proofs.Unique.{judged_once, normalised_once}
 use Rattle.printing.specs.Printing.{wrong_text, answer_text}
@@ -14,6 +13,7 @@ use Rattle.statements.specs.declared.Fault.{Fault}
 use Rattle.aptime.specs.Lines.{Said, wrong, whole}
 use Rattle.aptime.specs.Printed.{numbers_of, asked_of, Answered, Printed, too_long, faulty, answered}
 use Rattle.aptime.proofs.report.Reads as report
+use Rattle.rules.specs.Answers.{Outcome}
 
 -- a text says one thing
 never : {s : Said} {k : ℕ} {fault : Fault} {told samples : List ℕ} → s ≡ wrong k fault → s ≡ whole told samples → ⊥

@@ -1,7 +1,6 @@
 -- What is printed for a text: the answer to what it tells, in the words of crate `printing`. Assumes nothing.
 use Rattle.std.specs.Prelude.{ℕ, ◌≤◌, ◌<◌, cond, ◌≡◌, List, [], ◌∷◌, length, get_or, eqb}
 use Rattle.rules.specs.declared.Refusal.TheVariants.{InputLong}
-use Rattle.rules.specs.declared.Outcome.{Outcome}
 use Rattle.time.specs.Normal.{Normalised}
 use Rattle.time.specs.Patterns.{Judged}
 use Rattle.time.specs.declared.Judgement.{Judgement}
@@ -9,6 +8,7 @@ use Rattle.statements.specs.Words.{no_bound}
 use Rattle.statements.specs.declared.Fault.{Fault}
 use Rattle.printing.specs.Printing.{refused_text, wrong_text, answer_text}
 use Rattle.aptime.specs.Lines.{unsaid, wrong, whole, said_in}
+use Rattle.rules.specs.Answers.{Outcome}
 
 -- the seven numbers of an annotation: where nothing was said, document 001's default (Table 1)
 abbrev pub or_else : ℕ → ℕ → ℕ

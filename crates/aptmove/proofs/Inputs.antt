@@ -9,13 +9,10 @@ use borrow.Author.Tests.{lt-ltb, le-ltb}
 use Rattle.io.specs.Counts.{IsPrefixLen}
 use Rattle.rules.specs.Table.{plan_count}
 use Rattle.rules.specs.WaitFor.{first_version}
-use Rattle.rules.specs.Answers.{◌and_then◌}
+use Rattle.rules.specs.Answers.{◌and_then◌, Outcome, Done}
 use Rattle.rules.specs.Program.{line}
 use Rattle.rules.specs.declared.Refusal.{Refusal}
 use Rattle.rules.specs.declared.Refusal.TheVariants.{InputLong}
-use Rattle.rules.specs.declared.Outcome.{Outcome}
-use Rattle.rules.specs.declared.Outcome.TheVariants.{Done, Refused}
-use Rattle.rules.specs.declared.Verdict.TheVariants as verdict
 use Rattle.rules.proofs.Outcomes.{pass, pass_last, stop, then_done, then_next, then_stops, refused_not_done}
 use Rattle.versions.specs.Versions.{in_version1, in_version2, check_to1, check_to2, room_check}
 use Rattle.versions.proofs.Laid.{length_1, length_2, nodes_within}
@@ -23,9 +20,10 @@ use Rattle.versions.proofs.Moves.{has_plans, from_second}
 use Rattle.aptmove.specs.Moving.{check, moved, printed, complained, Within}
 use Rattle.aptmove.specs.declared.Told.{Told}
 use Rattle.aptmove.specs.declared.Told.TheVariants.{Table, Complaint}
+use Rattle.std.specs.Prelude.{Err}
 
 module _ (input : List ℕ) where
-  pub too_long : 65536 < length input → check input ≡ Refused InputLong
+  pub too_long : 65536 < length input → check input ≡ Err InputLong
   unfolding check
   too_long l = stop _ _ _ (lt-ltb _ _ l)
 
@@ -63,23 +61,23 @@ module _ (input : List ℕ) where
 
   -- so 24 is never told
   pub never_short :
-      (why : Refusal) (out : List ℕ) → 4096 ≤ length out → (check input and_then room_check (moved input) out) ≡ Refused why
-      → check input ≡ Refused why
+      (why : Refusal) (out : List ℕ) → 4096 ≤ length out → (check input and_then room_check (moved input) out) ≡ Err why
+      → check input ≡ Err why
   unfolding room_check
   never_short why out room e = go (check input) refl
     where
-      go : (o : Outcome) → check input ≡ o → check input ≡ Refused why
-      go Done d =
+      go : (o : Outcome) → check input ≡ o → check input ≡ Err why
+      go (Ok tt) d =
           let fit = pass_last _ _ (le-ltb (length out) (length (moved input)) (omega (arith, fits d))) in
           refused_not_done why (sym e ∙ then_next _ _ d ∙ fit)
-      go (Refused which) d = d ∙ sym (then_stops _ _ which d) ∙ e
+      go (Err which) d = d ∙ sym (then_stops _ _ which d) ∙ e
 
   -- what is written, by how the checks end
   pub if_done : check input ≡ Done → (printed input ≡ moved input) × (complained input ≡ [])
   unfolding printed complained
   if_done e = (rw (e, printed) refl, rw (e, complained) refl)
 
-  pub if_refused : (why : Refusal) → check input ≡ Refused why → (printed input ≡ []) × (complained input ≡ line 0 (verdict.Refused why))
+  pub if_refused : (why : Refusal) → check input ≡ Err why → (printed input ≡ []) × (complained input ≡ line 0 (Err why))
   unfolding printed complained
   if_refused why e = (rw (e, printed) refl, rw (e, complained) refl)
 

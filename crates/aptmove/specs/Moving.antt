@@ -1,15 +1,12 @@
 -- Document 02 (vi): the program `aptmove`, from the bytes of its input to those that it writes. Assumes nothing.
-use Rattle.std.specs.Prelude.{ℕ, length, take, ltb}
+use Rattle.std.specs.Prelude.{ℕ, length, take, ltb, Ok, Err}
 use Rattle.std.proofs.Math.Bool.{cond}
 use mathlib.Core.List.{List, []}
 use Rattle.io.specs.Counts.{IsPrefixLen}
 use Rattle.rules.specs.WaitFor.{first_version}
-use Rattle.rules.specs.Answers.{◌and_then◌, refuse_if}
+use Rattle.rules.specs.Answers.{◌and_then◌, refuse_if, Outcome}
 use Rattle.rules.specs.Program.{line}
 use Rattle.rules.specs.declared.Refusal.TheVariants.{InputLong}
-use Rattle.rules.specs.declared.Outcome.{Outcome}
-use Rattle.rules.specs.declared.Outcome.TheVariants.{Done, Refused}
-use Rattle.rules.specs.declared.Verdict.TheVariants as verdict
 use Rattle.versions.specs.Versions.{in_version1, in_version2, check_to1, check_to2}
 use Rattle.aptmove.specs.declared.Told.{Told}
 use Rattle.aptmove.specs.declared.Told.TheVariants.{Table, Complaint}
@@ -28,12 +25,12 @@ module _ (input : List ℕ) where
   -- what is written on standard output
   unfoldable pub printed : List ℕ
   unfolding check moved
-  printed = elim check [ Done ↦ moved | Refused why ↦ [] ]
+  printed = elim check [ Ok tt ↦ moved | Err why ↦ [] ]
 
   -- what is written on standard error: the line that `aprcheck` has for a refusal
   unfoldable pub complained : List ℕ
   unfolding check
-  complained = elim check [ Done ↦ [] | Refused why ↦ line 0 (verdict.Refused why) ]
+  complained = elim check [ Ok tt ↦ [] | Err why ↦ line 0 (Err why) ]
 
 -- what goes on each of the two, by what was told and the bytes of the buffer
 abbrev pub on_output : Told → List ℕ → List ℕ

@@ -9,7 +9,7 @@ ghost use Rattle.rules.specs.WaitFor.{first_version};
 ghost use Rattle.versions.specs.Versions.{move_answer, move_output};
 ghost use Rattle.aptmove.specs.Moving.{check, moved, printed, complained, on_output, on_error, Within};
 
-use rules::{Refusal, Verdict};
+use rules::{Refusal};
 use text::Input;
 
 // What an input comes to: so many bytes of a table, or of a line that says why there is none.
@@ -47,18 +47,18 @@ fn report(input: &[u8], out: &mut [u8; 4096]) -> Told
     ensures error { on_error result out.new ≡ complained input.now }
 {
     match answer(input, out) {
-        Verdict::Accepted(bytes) => Told::Table(bytes as usize),
-        Verdict::Refused(why) => Told::Complaint(text::put_refusal(why, out, 0)),
+        Ok(bytes) => Told::Table(bytes as usize),
+        Err(why) => Told::Complaint(text::put_refusal(why, out, 0)),
     }
 }
 
 // Puts the moved table of an input at the start of `out`: its length is looked at first.
-fn answer(input: &[u8], out: &mut [u8]) -> Verdict
+fn answer(input: &[u8], out: &mut [u8]) -> Result<u16, Refusal>
     ensures is { result ≡ move_answer (check input.now) (moved input.now) out.old }
     ensures left { out.new ≡ move_output (check input.now) (moved input.now) out.old }
 {
     if 65536 < input.len() {
-        return Verdict::Refused(Refusal::InputLong);
+        return Err(Refusal::InputLong);
     }
     if is_first_version(input) {
         return versions::to_version_2(input, out);

@@ -7,16 +7,14 @@ use lib.ListN.{length}
 use borrow.Author.Tests.{eq-eqb, ne_eqb}
 use Rattle.rules.specs.Lists.{some_below}
 use Rattle.rules.specs.Table.{plan_count, entry, retry_aborted}
-use Rattle.rules.specs.Answers.{table_check, call_words_check}
+use Rattle.rules.specs.Answers.{table_check, call_words_check, Figure, Done}
 use Rattle.rules.specs.declared.Refusal.{Refusal}
 use Rattle.rules.specs.declared.Refusal.TheVariants.{Lengths}
-use Rattle.rules.specs.declared.Outcome.TheVariants.{Done, Refused}
-use Rattle.rules.specs.declared.Figure.{Figure}
-use Rattle.rules.specs.declared.Figure.TheVariants as figure
 use Rattle.rules.proofs.Below.{some_either}
 use Rattle.rules.proofs.Outcomes.{pass, stop, then_next, then_stops}
 use Rattle.demands.specs.Bound.{most_steps, nobody_retries, both_hold, nobody_holds_both, premises, bound_check, bound_answer}
 use Rattle.bound.specs.Asked.{breaks_premise}
+use Rattle.std.specs.Prelude.{Ok, Err, Some, None}
 
 neither : (a b : Bool) → not (a || b) ≡ (not a && not b)
 neither true b = refl
@@ -25,24 +23,24 @@ neither false b = refl
 module _ (t w : List ℕ) where
   -- the figure, or none
   abbrev told : Figure
-  told = cond (premises t w) (figure.Within (most_steps (plan_count t))) figure.Unknown
+  told = cond (premises t w) (Ok (Some (most_steps (plan_count t)))) (Ok None)
 
-  pub told_figure : (k : ℕ) → k ≡ most_steps (plan_count t) → premises t w ≡ true → figure.Within k ≡ told
+  pub told_figure : (k : ℕ) → k ≡ most_steps (plan_count t) → premises t w ≡ true → Ok (Some k) ≡ told
   told_figure k is kept = rw (kept, is) refl
 
-  pub told_none : premises t w ≡ false → figure.Unknown ≡ told
+  pub told_none : premises t w ≡ false → (Ok None) ≡ told
   told_none broken = rw broken refl
 
-  refused : (why : Refusal) → bound_check t w ≡ Refused why → bound_answer t w ≡ figure.Refused why
+  refused : (why : Refusal) → bound_check t w ≡ Err why → bound_answer t w ≡ Err why
   unfolding bound_answer
   refused why e = rw (e, bound_answer)
 
-  pub table_refused : (why : Refusal) → table_check t ≡ Refused why → bound_answer t w ≡ figure.Refused why
+  pub table_refused : (why : Refusal) → table_check t ≡ Err why → bound_answer t w ≡ Err why
   unfolding bound_check
   table_refused why e = refused why (then_stops (table_check t) _ why e)
 
   module _ (done : table_check t ≡ Done) (n : ℕ) (whole : n ≡ plan_count t) where
-    pub length_refused : (length w ≡ 4 * n → ⊥) → bound_answer t w ≡ figure.Refused Lengths
+    pub length_refused : (length w ≡ 4 * n → ⊥) → bound_answer t w ≡ Err Lengths
     unfolding bound_check
     length_refused other = refused Lengths (then_next (table_check t) _ done ∙ stop _ _ _ (ap not (ne_eqb _ _ (rw whole at other))))
 
@@ -51,7 +49,7 @@ module _ (t w : List ℕ) where
       unfolding bound_check
       words_left = then_next (table_check t) _ done ∙ pass _ _ _ (ap not (eq-eqb _ _ (rw whole at long)))
 
-      pub words_refused : (why : Refusal) → call_words_check t w ≡ Refused why → bound_answer t w ≡ figure.Refused why
+      pub words_refused : (why : Refusal) → call_words_check t w ≡ Err why → bound_answer t w ≡ Err why
       words_refused why e = refused why (words_left ∙ e)
 
       pub figure_told : call_words_check t w ≡ Done → bound_answer t w ≡ told

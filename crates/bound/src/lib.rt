@@ -14,12 +14,12 @@ ghost use Rattle.bound.specs.Asked.{Asked, breaks_premise};
 
 use lent::check_words;
 use reading::{entry_at, plan_count, word_at};
-use rules::{Condition, Figure, Outcome, PlanEntry, Refusal};
+use rules::{Condition, PlanEntry, Refusal};
 use table::read_table;
 
 // The most steps that a run under these words takes to rest, by either rule and from all states that pass; where a premise fails, that no
 // figure is known; or a refusal of the table or the words.
-pub fn bound(table: &[u8], words: &[u8]) -> Figure
+pub fn bound(table: &[u8], words: &[u8]) -> Result<Option<u16>, Refusal>
     ensures answer { result ≡ bound_answer table.now words.now }
     ensures promise { (k : ℕ) → result ≡ is.Within k → RestsWithin table.now words.now k }
 {
@@ -27,34 +27,34 @@ pub fn bound(table: &[u8], words: &[u8]) -> Figure
     let mut counts = [0u8; 256];
     let mut names = [0u64; 512];
     match read_table(table, &mut ranks, &mut counts, &mut names) {
-        Outcome::Refused(why) => Figure::Refused(why),
-        Outcome::Done => bound_under(table, &counts, words),
+        Err(why) => Err(why),
+        Ok(()) => bound_under(table, &counts, words),
     }
 }
 
 // The answer, of a table that passes, with its numbers of children.
-fn bound_under(table: &[u8], counts: &[u8], words: &[u8]) -> Figure
+fn bound_under(table: &[u8], counts: &[u8], words: &[u8]) -> Result<Option<u16>, Refusal>
     requires { Tabled table.now counts.now }
     ensures { result ≡ bound_answer table.now words.now }
 {
     let n = plan_count(table);
     if words.len() != 4 * n {
-        return Figure::Refused(Refusal::Lengths);
+        return Err(Refusal::Lengths);
     }
     match check_words(table, n, counts, words) {
-        Outcome::Refused(why) => Figure::Refused(why),
-        Outcome::Done => figure(table, n, words),
+        Err(why) => Err(why),
+        Ok(()) => figure(table, n, words),
     }
 }
 
 // The answer, of words that pass too.
-fn figure(table: &[u8], n: usize, words: &[u8]) -> Figure
+fn figure(table: &[u8], n: usize, words: &[u8]) -> Result<Option<u16>, Refusal>
     requires { Asked table.now n words.now }
     ensures { result ≡ cond (premises table.now words.now)
         (is.Within (most_steps (plan_count table.now))) is.Unknown }
 {
     if some_break(table, n, words) {
-        return Figure::Unknown;
+        return Ok(None);
     }
     Figure::Within(6 * n as u16)
 }

@@ -9,14 +9,13 @@ use lib.Seq.{take_all, take-take}
 use Rattle.rules.specs.Table.{plan_count}
 use Rattle.rules.specs.Step.{chosen, step_under}
 use Rattle.rules.specs.Record.{step_size, words_of, states_of, states_before, ExplainedFirst}
-use Rattle.rules.specs.Answers.{rule_check, table_check, record_check, StepPasses, Judged, accepted}
-use Rattle.rules.specs.declared.Outcome.TheVariants.{Done}
-use Rattle.rules.specs.declared.Verdict.TheVariants as verdict
+use Rattle.rules.specs.Answers.{rule_check, table_check, record_check, StepPasses, Judged, accepted, Done}
 use Rattle.rules.proofs.Outcomes.{first_done, then_done}
 use Rattle.demands.specs.PassesStates.{PassesStates}
 use Rattle.demands.proofs.Step.{length_step}
 use Rattle.demands.proofs.PassedWords.{record_words}
 use Rattle.demands.proofs.Valid.{start_passes, step_passes}
+use Rattle.std.specs.Prelude.{Ok}
 
 pub table_done : (rule : ℕ) (t r : List ℕ) → record_check rule t r ≡ Done → table_check t ≡ Done
 unfolding record_check
@@ -53,7 +52,7 @@ pub record AcceptedStep (rule : ℕ) (t r : List ℕ) (i : ℕ) : Type 0 where
   pub leads : states_of t r i ≡ step_under rule t (states_before t r i) (words_of t r i) pick
 
 pub accepted_step :
-    (rule : ℕ) (t r : List ℕ) (steps : ℕ) → Judged rule t r (verdict.Accepted steps) → (i : ℕ) → i < steps → AcceptedStep rule t r i
+    (rule : ℕ) (t r : List ℕ) (steps : ℕ) → Judged rule t r (Ok steps) → (i : ℕ) → i < steps → AcceptedStep rule t r i
 accepted_step rule t r steps (accepted good passes) i l =
     let e = (passes i l).states in
     let done = table_done rule t r good in

@@ -16,7 +16,6 @@ use Rattle.rules.specs.Answers.{Judged}
 use Rattle.rules.specs.Demands.{SubPlan, Retried, EndingsKept}
 use Rattle.rules.specs.declared.PlanState.{PlanState}
 use Rattle.rules.specs.declared.PlanState.TheVariants.{Considered, Aborted}
-use Rattle.rules.specs.declared.Verdict.TheVariants.{Accepted}
 use Rattle.rules.proofs.Tree.{passes, Tree, tree}
 use Rattle.demands.proofs.Tests.{both, left, right, in_left, in_right, decide}
 use Rattle.demands.proofs.Children.{sub_plan, after_parent}
@@ -26,6 +25,7 @@ use Rattle.demands.proofs.Step.{next, state_step}
 use Rattle.demands.proofs.PassedStates.{Valid, passes_valid}
 use Rattle.demands.proofs.Went.{root_moved, child_moved, plan_moved}
 use Rattle.demands.proofs.Accepted.{accepted_step}
+use Rattle.std.specs.Prelude.{Ok}
 
 -- A plan that had begun and is dormant after the step was retried, or stands under one that was.
 begun_parent : (x y : PlanState) → T (suits x y) → T (not (dormant y)) → T (not (dormant x))
@@ -121,7 +121,7 @@ module _ (rule : ℕ) (t s w : List ℕ) (pick : ℕ → ℕ) (tree : Tree t) (v
           inl (shows p l ∙ is_it (state_at s p) (new p) (keeps_ending m.moved h x))
 
 pub endings_kept :
-    (rule : ℕ) (t r : List ℕ) (steps : ℕ) → Judged rule t r (Accepted steps) → (i : ℕ) → i < steps
+    (rule : ℕ) (t r : List ℕ) (steps : ℕ) → Judged rule t r (Ok steps) → (i : ℕ) → i < steps
     → EndingsKept t (states_before t r i) (states_of t r i)
 endings_kept rule t r steps judged i l =
     let step = accepted_step rule t r steps judged i l in

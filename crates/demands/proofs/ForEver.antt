@@ -9,14 +9,12 @@ use mathlib.Core.Logic.{⊎_elim}
 use mathlib.Core.List.{List, [], ◌∷◌, ◌++◌}
 use lib.Dec.{T, eqb, eqb→eq}
 use lib.ListN.{length, length-append}
-use Rattle.rules.specs.Lists.{same, least_from, some_below, Nowhere}
+use Rattle.rules.specs.Lists.{same, least_from, some_below}
 use Rattle.rules.specs.Table.{plan_count}
 use Rattle.rules.specs.Words.{holds}
 use Rattle.rules.specs.Step.{step}
 use Rattle.rules.specs.Rest.{after, settled, least_rest}
-use Rattle.rules.specs.Answers.{is_done, is_rule, call_check, run_answer}
-use Rattle.rules.specs.declared.Outcome.TheVariants.{Done}
-use Rattle.rules.specs.declared.Rest.TheVariants.{Rested, Moving}
+use Rattle.rules.specs.Answers.{is_done, is_rule, call_check, run_answer, Done}
 use Rattle.rules.proofs.Outcomes.{is_done_lem}
 use Rattle.rules.proofs.Same.{same_equal}
 use Rattle.demands.specs.Bound.{nobody_retries, both_hold, nobody_holds_both, RestsWithin, MovesForEver}
@@ -35,6 +33,7 @@ use Rattle.demands.specs.Cases.{
 }
 use Rattle.demands.proofs.Tests.{left, right, either, is_true, is_false}
 use Rattle.demands.proofs.PassedCall.{room_counts, lengths}
+use Rattle.std.specs.Prelude.{Ok, Some, None}
 
 -- A run that comes back to its states, and has changed some in each step until then, never rests.
 module _
@@ -58,12 +57,12 @@ module _
           let same_states = ap (after rule t s w) e ∙ once_more (k - round) in
           ap (λ (l : List ℕ). same (step rule t l w) l) same_states ∙ ih (omega arith)
 
-  none_found : (p k : ℕ) → least_from (settled rule t s w) p k ≡ Nowhere
+  none_found : (p k : ℕ) → least_from (settled rule t s w) p k ≡ None
   unfolding least_from
   none_found p zero = refl
   none_found p (suc k) = rw (never_settled (suc p) p (omega arith), least_from) (none_found (p + 1) k)
 
-  still_moving : (c : List ℕ) → call_check rule t s w c ≡ Done → (budget : ℕ) → run_answer rule t s w c budget ≡ Moving
+  still_moving : (c : List ℕ) → call_check rule t s w c ≡ Done → (budget : ℕ) → run_answer rule t s w c budget ≡ Ok None
   unfolding run_answer least_rest
   still_moving c done budget = rw (run_answer, done, none_found 0 (suc budget)) refl
 
@@ -105,7 +104,7 @@ module _ (rule : ℕ) (t w : List ℕ) where
 
   pub round_moves :
       (s : List ℕ) (xs : List (List ℕ)) → T (rounds t w s xs rule) → (c : List ℕ) → length c ≡ plan_count t → (budget : ℕ)
-      → run_answer rule t s w c budget ≡ Moving
+      → run_answer rule t s w c budget ≡ Ok None
   round_moves s xs h c room =
       let done : Bool = is_done (call_check rule t s w s) in
       let passed = is_done_lem (call_check rule t s w s) (left done (path rule t w s (xs ++ (s ∷ []))) h) in
@@ -136,7 +135,7 @@ module _ (t w s : List ℕ) (xs : List (List ℕ)) (h : T (by_both t w s xs)) wh
   no_figure rule known most kept =
       let done = is_done_lem (call_check rule t s w s) (left (is_done (call_check rule t s w s)) _ (by_each rule known)) in
       let run = kept.rests rule s s most done (omega arith) in
-      let both : Rested run.steps ≡ Moving =
+      let both : Ok (Some run.steps) ≡ Ok None =
       sym run.answer ∙ for_ever.moves rule s most known (lengths rule t s w s done).0 in
       let z : ◌≡◌ {A = ℕ} 0 1 = cc in
       absurd (omega arith)

@@ -33,39 +33,12 @@ use Rattle.rules.specs.Step.{
   step_under,
 }
 use Rattle.rules.specs.Record.{step_count, words_of, states_of, states_before}
-use Rattle.rules.specs.Answers.{
-  ◌and_then◌,
-  refuse_if,
-  refuse_at,
-  undefined_entry,
-  unfit_entry,
-  unrooted,
-  bad_parent,
-  undefined_byte,
-  unfit,
-  too_many,
-  bad_wait,
-  header_check,
-  plans_check,
-  rule_check,
-  table_check,
-  bad_record_word,
-  is_done,
-  form_check,
-  record_check,
-  words_check,
-  StepPasses,
-  Judged,
-  unexplained,
-  accepted,
-}
+use Rattle.rules.specs.Answers.{◌and_then◌, refuse_if, refuse_at, undefined_entry, unfit_entry, unrooted, bad_parent, undefined_byte, unfit, too_many, bad_wait, header_check, plans_check, rule_check, table_check, bad_record_word, is_done, form_check, record_check, words_check, StepPasses, Judged, unexplained, accepted, Done}
 use Rattle.rules.specs.Program.{table_length, Answered, judged}
 use Rattle.rules.specs.Demands.{Retried}
 use Rattle.rules.specs.declared.PlanState.{PlanState}
 use Rattle.rules.specs.declared.PlanState.TheVariants.{Activated, Suspended, Completed, Aborted}
 use Rattle.rules.specs.declared.Refusal.TheVariants.{Unexplained}
-use Rattle.rules.specs.declared.Outcome.TheVariants.{Done}
-use Rattle.rules.specs.declared.Verdict.TheVariants as verdict
 use Rattle.rules.proofs.Outcomes.{is_done_lem}
 use Rattle.rules.proofs.Same.{same_equal}
 use Rattle.demands.specs.Witness.{activated_child, witness}
@@ -74,6 +47,7 @@ use Rattle.demands.proofs.Tests.{left, right, is_true}
 use Rattle.demands.proofs.Witness.{witness_explains}
 use Rattle.demands.proofs.PlanByPlan.{explained_fewer, unexplained as not_explained}
 use Rattle.demands.proofs.Accepted.{table_done}
+use Rattle.std.specs.Prelude.{Ok, Err}
 
 -- A record whose steps pass a computed test is accepted: the witness's picks lead to the states shown. Where they lead a plan elsewhere,
 -- and the plans before it to what is shown, it is refused there.
@@ -107,13 +81,13 @@ module _ (rule : ℕ) (t r : List ℕ) where
       go (inl e) ih = step_passes good i (rw e (left (step_holds k) (steps_hold k) h))
       go (inr m) ih = ih m
 
-  accepted_by_test : record_check rule t r ≡ Done → T (steps_hold (step_count t r)) → Judged rule t r (verdict.Accepted (step_count t r))
+  accepted_by_test : record_check rule t r ≡ Done → T (steps_hold (step_count t r)) → Judged rule t r (Ok (step_count t r))
   accepted_by_test good h = accepted good (steps_pass good (step_count t r) h)
 
   refused_by_test :
       record_check rule t r ≡ Done → (i p : ℕ) → i < step_count t r → T (steps_hold i) → T (is_done (words_check t r i)) → p < plan_count t
       → take p (leads i) ≡ take p (states_of t r i) → (byte_at (leads i) p ≡ byte_at (states_of t r i) p → ⊥)
-      → Judged rule t r (verdict.Refused (Unexplained (suc i) p))
+      → Judged rule t r (Err (Unexplained (suc i) p))
   refused_by_test good i p l h words inside alike differs =
       let s = states_before t r i in
       let w = words_of t r i in
@@ -173,20 +147,20 @@ abbrev pub plan_1 : ℕ → PlanState
 plan_1 k = state_at (states_before ward morning k) 1
 
 pub record Lively : Type 0 where
-  pub judged : Judged 1 ward morning (verdict.Accepted 17) × Judged 2 ward morning (verdict.Accepted 17)
+  pub judged : Judged 1 ward morning (Ok 17) × Judged 2 ward morning (Ok 17)
   pub activated : plan_1 8 ≡ Activated
   pub suspended : plan_1 9 ≡ Suspended
   pub aborted : plan_1 11 ≡ Aborted
   pub retried : Retried ward (states_before ward morning 11) (states_of ward morning 11) 1 1
   pub completed : plan_1 16 ≡ Completed
-  pub old_sinks : Judged 1 mandatory sinks (verdict.Accepted 10)
-  pub new_does_not_sink : Judged 2 mandatory sinks (verdict.Refused (Unexplained 10 0))
-  pub new_goes_on : Judged 2 mandatory going_on (verdict.Accepted 10)
-  pub old_does_not_go_on : Judged 1 mandatory going_on (verdict.Refused (Unexplained 10 0))
-  pub old_does_not_wait : Judged 1 mandatory waits (verdict.Refused (Unexplained 10 0))
-  pub new_does_not_wait : Judged 2 mandatory waits (verdict.Refused (Unexplained 10 1))
+  pub old_sinks : Judged 1 mandatory sinks (Ok 10)
+  pub new_does_not_sink : Judged 2 mandatory sinks (Err (Unexplained 10 0))
+  pub new_goes_on : Judged 2 mandatory going_on (Ok 10)
+  pub old_does_not_go_on : Judged 1 mandatory going_on (Err (Unexplained 10 0))
+  pub old_does_not_wait : Judged 1 mandatory waits (Err (Unexplained 10 0))
+  pub new_does_not_wait : Judged 2 mandatory waits (Err (Unexplained 10 1))
   -- the program goes by rule 2
-  pub program_goes_on : Answered (mandatory ++ going_on) (verdict.Accepted 10)
+  pub program_goes_on : Answered (mandatory ++ going_on) (Ok 10)
 
 -- Activated, and Considered, are not Aborted
 differ : ◌≡◌ {A = ℕ} 4 7 → ⊥

@@ -24,12 +24,12 @@ use Rattle.rules.specs.declared.Body.TheVariants.{
   IfThenElse,
 }
 use Rattle.rules.specs.declared.PlanState.{PlanState}
-use Rattle.rules.specs.declared.Verdict.TheVariants.{Accepted}
 use Rattle.demands.proofs.Numbers.{not_lower}
 use Rattle.demands.proofs.Tests.{◌⇒◌}
 use Rattle.demands.proofs.States.{every, states}
 use Rattle.demands.proofs.PassedStates.{keeps, Valid, passes_valid}
 use Rattle.demands.proofs.Accepted.{accepted_step}
+use Rattle.std.specs.Prelude.{Ok}
 
 -- what passes check 11 has it
 module _ (t : List ℕ) (st : ℕ → PlanState) (v : Valid t st) where
@@ -75,6 +75,6 @@ module _ (t : List ℕ) (st : ℕ → PlanState) (v : Valid t st) where
       go IfThenElse b k = kept IfThenElse b (λ a. tt)
 
 pub one_in_execution :
-    (rule : ℕ) (t r : List ℕ) (steps : ℕ) → Judged rule t r (Accepted steps) → (i : ℕ) → i < steps → AtMostOne t (states_of t r i)
+    (rule : ℕ) (t r : List ℕ) (steps : ℕ) → Judged rule t r (Ok steps) → (i : ℕ) → i < steps → AtMostOne t (states_of t r i)
 one_in_execution rule t r steps judged i l =
     one_at_a_time_lem t (state_at (states_of t r i)) (passes_valid t (states_of t r i) (accepted_step rule t r steps judged i l).after)

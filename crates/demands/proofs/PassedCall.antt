@@ -12,8 +12,7 @@ use Rattle.rules.specs.Words.{word, pick_of}
 use Rattle.rules.specs.Step.{step}
 use Rattle.rules.specs.Rest.{after}
 use Rattle.rules.specs.HandedIn.{bad_state}
-use Rattle.rules.specs.Answers.{bad_word, rule_check, table_check, wrong_lengths, lent_check, call_check}
-use Rattle.rules.specs.declared.Outcome.TheVariants.{Done}
+use Rattle.rules.specs.Answers.{bad_word, rule_check, table_check, wrong_lengths, lent_check, call_check, Done}
 use Rattle.rules.proofs.Outcomes.{first_done, then_done, if_done, at_done}
 use Rattle.rules.proofs.Least.{nowhere}
 use Rattle.rules.proofs.Tree.{or_left, or_right}

@@ -9,10 +9,9 @@ use lib.ListN.{length}
 use Rattle.rules.specs.Table.{plan_count, entry, body_of, children}
 use Rattle.rules.specs.Words.{word, pick_of, pick_allowed, other_bits, satisfied_only, if_satisfied, if_satisfiable}
 use Rattle.rules.specs.Record.{words_of}
-use Rattle.rules.specs.Answers.{wrong_word_if, wrong_word, bad_word, bad_record_word, words_check}
+use Rattle.rules.specs.Answers.{wrong_word_if, wrong_word, bad_word, bad_record_word, words_check, Done}
 use Rattle.rules.specs.declared.Body.{Body}
 use Rattle.rules.specs.declared.Condition.TheVariants.{Filter, Setup}
-use Rattle.rules.specs.declared.Outcome.TheVariants.{Done}
 use Rattle.rules.proofs.Least.{nowhere}
 use Rattle.rules.proofs.Outcomes.{at_done}
 use Rattle.rules.proofs.Tree.{or_right}

@@ -10,8 +10,7 @@ use Rattle.rules.specs.Bytes.{byte_at}
 use Rattle.rules.specs.Table.{plan_count}
 use Rattle.rules.specs.Step.{chosen, step_by, step_under}
 use Rattle.rules.specs.Record.{Explained}
-use Rattle.rules.specs.Answers.{table_check}
-use Rattle.rules.specs.declared.Outcome.TheVariants.{Done}
+use Rattle.rules.specs.Answers.{table_check, Done}
 use Rattle.rules.proofs.Tree.{Tree}
 use Rattle.demands.specs.Witness.{witness}
 use Rattle.demands.proofs.Children.{after_parent}

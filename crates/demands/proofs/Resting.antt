@@ -16,8 +16,7 @@ use Rattle.rules.specs.Words.{word, pick_of, holds}
 use Rattle.rules.specs.HandedIn.{bad_state}
 use Rattle.rules.specs.Step.{chosen, step_by, step_under, step}
 use Rattle.rules.specs.Rest.{after, settled}
-use Rattle.rules.specs.Answers.{table_check}
-use Rattle.rules.specs.declared.Outcome.TheVariants.{Done}
+use Rattle.rules.specs.Answers.{table_check, Done}
 use Rattle.rules.specs.declared.Condition.TheVariants.{Suspend, Reactivate}
 use Rattle.rules.specs.declared.PlanState.{PlanState}
 use Rattle.rules.specs.declared.PlanState.TheVariants.{

@@ -7,17 +7,11 @@ use mathlib.Core.Bool.{Bool, true, false, cond, not}
 use mathlib.Core.Path.{◌≡◌, refl, sym}
 use mathlib.Core.List.{List}
 use lib.Dec.{T}
-use Rattle.rules.specs.Lists.{Found, Nowhere, At}
 use Rattle.rules.specs.Table.{plan_count, entry, retry_aborted}
 use Rattle.rules.specs.Words.{word, holds}
 use Rattle.rules.specs.Rest.{settled, least_rest}
-use Rattle.rules.specs.Answers.{call_check, run_answer}
+use Rattle.rules.specs.Answers.{call_check, run_answer, Outcome, Figure, Done}
 use Rattle.rules.specs.declared.Condition.TheVariants.{Suspend, Reactivate}
-use Rattle.rules.specs.declared.Outcome.{Outcome}
-use Rattle.rules.specs.declared.Outcome.TheVariants.{Done, Refused}
-use Rattle.rules.specs.declared.Rest.TheVariants as rest
-use Rattle.rules.specs.declared.Figure.{Figure}
-use Rattle.rules.specs.declared.Figure.TheVariants as figure
 use Rattle.rules.proofs.Below.{none_true}
 use Rattle.rules.proofs.Least.{nowhere, passed_over}
 use Rattle.demands.specs.Bound.{
@@ -34,6 +28,7 @@ use Rattle.demands.specs.Bound.{
 use Rattle.demands.proofs.Tests.{both, left, right, is_false}
 use Rattle.demands.proofs.PassedCall.{table_passes, handed_in, words_in}
 use Rattle.demands.proofs.Resting.{left_after}
+use Rattle.std.specs.Prelude.{Option, Ok, Err, Some, None}
 
 module _ (t w : List ℕ) (hold : T (premises t w)) where
   once : (p : ℕ) → p < plan_count t → T (not (retry_aborted (entry t p)))
@@ -58,15 +53,15 @@ module _ (t w : List ℕ) (hold : T (premises t w)) where
         omega (arith, left_after rule t w passed (words_in rule t s w c done) once never s (handed_in rule t s w c done) k moved)
 
     -- by what the search for the least step without change finds
-    run_rests : (found : Found) → least_rest rule t s w budget ≡ found → Rests t w (most_steps (plan_count t)) rule s c budget
+    run_rests : (found : Option ℕ) → least_rest rule t s w budget ≡ found → Rests t w (most_steps (plan_count t)) rule s c budget
     unfolding least_rest run_answer
-    run_rests (At k) is =
+    run_rests (Some k) is =
         record {
           steps = k;
           few = fewer k (passed_over (settled rule t s w) (suc budget) k is);
           answer = rw (run_answer, done, is) refl;
         }
-    run_rests Nowhere is = absurd (omega (arith, fewer (suc budget) (nowhere (settled rule t s w) (suc budget) is)))
+    run_rests None is = absurd (omega (arith, fewer (suc budget) (nowhere (settled rule t s w) (suc budget) is)))
 
 pub rests_within : (t w : List ℕ) → T (premises t w) → RestsWithin t w (most_steps (plan_count t))
 rests_within t w hold =
@@ -76,21 +71,21 @@ rests_within t w hold =
 pub six_steps_a_plan :
     (t w : List ℕ) → T (nobody_retries t) → T (nobody_holds_both t w) → (rule : ℕ) (s c : List ℕ) (budget : ℕ)
     → call_check rule t s w c ≡ Done → 6 * plan_count t ≤ budget
-    → (k : ℕ) × (k ≤ 6 * plan_count t) × (run_answer rule t s w c budget ≡ rest.Rested k)
+    → (k : ℕ) × (k ≤ 6 * plan_count t) × (run_answer rule t s w c budget ≡ Ok (Some k))
 six_steps_a_plan t w x y rule s c budget done large =
     let run = (rests_within t w (both (nobody_retries t) (nobody_holds_both t w) x y)).rests rule s c budget done large in
     (run.steps, run.few, run.answer)
 
 -- what a call answers is kept
-pub bound_kept : (t w : List ℕ) (k : ℕ) → bound_answer t w ≡ figure.Within k → RestsWithin t w k
+pub bound_kept : (t w : List ℕ) (k : ℕ) → bound_answer t w ≡ Ok (Some k) → RestsWithin t w k
 unfolding bound_answer
 bound_kept t w k e = go (bound_check t w) (premises t w) refl refl e
   where
     go :
         (o : Outcome) (b : Bool) → bound_check t w ≡ o → premises t w ≡ b
-        → elim o as (λ _. Figure) [ Done ↦ cond b (figure.Within (most_steps (plan_count t))) figure.Unknown | Refused why ↦ figure.Refused why ]
-        ≡ figure.Within k
+        → elim o as (λ _. Figure) [ Ok tt ↦ cond b (Ok (Some (most_steps (plan_count t)))) (Ok None) | Err why ↦ Err why ]
+        ≡ Ok (Some k)
         → RestsWithin t w k
-    go Done true x y h = let same : most_steps (plan_count t) ≡ k = cc in rw (sym same) (rests_within t w (rw y tt))
-    go Done false x y h = let z : ◌≡◌ {A = ℕ} 0 1 = cc in absurd (omega arith)
-    go (Refused why) b x y h = let z : ◌≡◌ {A = ℕ} 0 1 = cc in absurd (omega arith)
+    go (Ok tt) true x y h = let same : most_steps (plan_count t) ≡ k = cc in rw (sym same) (rests_within t w (rw y tt))
+    go (Ok tt) false x y h = let z : ◌≡◌ {A = ℕ} 0 1 = cc in absurd (omega arith)
+    go (Err why) b x y h = let z : ◌≡◌ {A = ℕ} 0 1 = cc in absurd (omega arith)

@@ -15,7 +15,7 @@ use Rattle.rules.specs.Table.{plan_count, entry, body_of, is_body, of_two, retry
 use Rattle.rules.specs.Words.{word, if_satisfiable}
 use Rattle.rules.specs.Step.{done, first_not_done, may_activate, chosen, step_by, step_under}
 use Rattle.rules.specs.HandedIn.{suits, lets_later}
-use Rattle.rules.specs.Answers.{table_check}
+use Rattle.rules.specs.Answers.{table_check, Done}
 use Rattle.rules.specs.Demands.{SubPlan}
 use Rattle.rules.specs.declared.Body.{Body}
 use Rattle.rules.specs.declared.Body.TheVariants.{
@@ -30,7 +30,6 @@ use Rattle.rules.specs.declared.Body.TheVariants.{
   IfThenElse,
 }
 use Rattle.rules.specs.declared.Orders.{Orders}
-use Rattle.rules.specs.declared.Outcome.TheVariants.{Done}
 use Rattle.rules.specs.declared.PlanState.{PlanState}
 use Rattle.rules.specs.declared.PlanState.TheVariants.{Inactive, Considered, Aborted, Rejected}
 use Rattle.rules.proofs.Bodies.{body_is}

@@ -8,9 +8,7 @@ use Rattle.rules.specs.States.{state_at}
 use Rattle.rules.specs.Table.{children_before, children}
 use Rattle.rules.specs.Step.{fallback, ready_or, chosen}
 use Rattle.rules.specs.Record.{Choosing, words_of, states_of, states_before}
-use Rattle.rules.specs.Answers.{record_check, JudgedBy, Judged}
-use Rattle.rules.specs.declared.Outcome.TheVariants.{Done}
-use Rattle.rules.specs.declared.Verdict.{Verdict}
+use Rattle.rules.specs.Answers.{record_check, JudgedBy, Judged, Verdict, Done}
 use Rattle.rules.proofs.Verdicts.{Explains, still_judged}
 use Rattle.demands.specs.Before.{chosen_before, JudgedBefore}
 use Rattle.demands.proofs.Choice.{AmongReady, chosen_among, before_among}

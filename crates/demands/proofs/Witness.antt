@@ -13,10 +13,9 @@ use Rattle.rules.specs.States.{state_at, is}
 use Rattle.rules.specs.Table.{plan_count, entry, body_of, children}
 use Rattle.rules.specs.Step.{step_by, step_under}
 use Rattle.rules.specs.Record.{Choosing, ExplainedBy, Explained}
-use Rattle.rules.specs.Answers.{unfit, table_check}
+use Rattle.rules.specs.Answers.{unfit, table_check, Done}
 use Rattle.rules.specs.Demands.{SubPlan}
 use Rattle.rules.specs.declared.Body.TheVariants.{AnyOrder}
-use Rattle.rules.specs.declared.Outcome.TheVariants.{Done}
 use Rattle.rules.specs.declared.PlanState.TheVariants.{Ready, Activated}
 use Rattle.rules.proofs.Tree.{Passes, passes, Tree, tree, or_left}
 use Rattle.demands.specs.Witness.{activated_child, witness}

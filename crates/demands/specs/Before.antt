@@ -6,8 +6,7 @@ use Rattle.rules.specs.States.{state_at, is}
 use Rattle.rules.specs.Table.{children}
 use Rattle.rules.specs.Step.{ready_or}
 use Rattle.rules.specs.Record.{Choosing}
-use Rattle.rules.specs.Answers.{JudgedBy}
-use Rattle.rules.specs.declared.Verdict.{Verdict}
+use Rattle.rules.specs.Answers.{JudgedBy, Verdict}
 use Rattle.rules.specs.declared.PlanState.TheVariants.{Ready}
 
 -- document 01: the Ready child whose rank is the pick, else the Ready child of lowest rank, named or not

@@ -1,18 +1,13 @@
 -- Document 02 (viii), how long a run can go on under held words: the two premises, which a host can compute, the figure, what it promises
 -- of every run, and what the question for it answers. Assumes nothing.
-use Rattle.std.specs.Prelude.{ℕ, ◌*◌, ◌≤◌, Bool, ◌&&◌, ◌≡◌, List, length, T, eqb}
+use Rattle.std.specs.Prelude.{ℕ, ◌*◌, ◌≤◌, Bool, ◌&&◌, ◌≡◌, List, length, T, eqb, Ok, Err, Some, None}
 use Rattle.std.proofs.Math.Bool.{cond, not}
 use Rattle.rules.specs.Lists.{some_below}
 use Rattle.rules.specs.Table.{plan_count, entry, retry_aborted}
 use Rattle.rules.specs.Words.{word, holds}
-use Rattle.rules.specs.Answers.{◌and_then◌, refuse_if, is_rule, table_check, call_words_check, call_check, run_answer}
+use Rattle.rules.specs.Answers.{◌and_then◌, refuse_if, is_rule, table_check, call_words_check, call_check, run_answer, Outcome, Figure, Done}
 use Rattle.rules.specs.declared.Condition.TheVariants.{Suspend, Reactivate}
 use Rattle.rules.specs.declared.Refusal.TheVariants.{Lengths}
-use Rattle.rules.specs.declared.Outcome.{Outcome}
-use Rattle.rules.specs.declared.Outcome.TheVariants.{Done, Refused}
-use Rattle.rules.specs.declared.Rest.TheVariants as rest
-use Rattle.rules.specs.declared.Figure.{Figure}
-use Rattle.rules.specs.declared.Figure.TheVariants as figure
 
 -- the figure, of n plans: six steps for each
 abbrev pub most_steps : ℕ → ℕ
@@ -40,7 +35,7 @@ module _ (t w : List ℕ) where
   pub record Rests (most rule : ℕ) (s c : List ℕ) (budget : ℕ) : Type 0 where
     pub steps : ℕ
     pub few : steps ≤ most
-    pub answer : run_answer rule t s w c budget ≡ rest.Rested steps
+    pub answer : run_answer rule t s w c budget ≡ Ok (Some steps)
 
   -- so does every run that is not refused: by either rule, from any states that pass check 11, with a budget at least that large
   pub record RestsWithin (most : ℕ) : Type 0 where
@@ -49,7 +44,7 @@ module _ (t w : List ℕ) where
   -- from states s no run rests, by either rule and with whatever budget
   pub record MovesForEver (s : List ℕ) : Type 0 where
     pub moves :
-        (rule : ℕ) (c : List ℕ) (budget : ℕ) → T (is_rule rule) → length c ≡ plan_count t → run_answer rule t s w c budget ≡ rest.Moving
+        (rule : ℕ) (c : List ℕ) (budget : ℕ) → T (is_rule rule) → length c ≡ plan_count t → run_answer rule t s w c budget ≡ Ok None
 
   -- the checks of the question: the table's, 10 of the words, 12
   unfoldable pub bound_check : Outcome
@@ -61,6 +56,6 @@ module _ (t w : List ℕ) where
   unfolding nobody_retries nobody_holds_both bound_check
   bound_answer =
       elim bound_check [
-        | Done ↦ cond premises (figure.Within (most_steps (plan_count t))) figure.Unknown
-        | Refused why ↦ figure.Refused why
+        | Ok tt ↦ cond premises (Ok (Some (most_steps (plan_count t)))) (Ok None)
+        | Err why ↦ Err why
       ]

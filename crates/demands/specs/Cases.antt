@@ -1,7 +1,7 @@
 -- Rows that show the definitions of document 02 (viii): what a call for the figure answers, runs state by state until they rest, and runs
 -- that go round and never do; one list, and one theorem that all its rows hold. A run goes through the whole call, by both rules. Assumes
 -- nothing.
-use Rattle.std.specs.Prelude.{ℕ, zero, suc, ◌+◌, ◌/◌, ◌%◌, ◌^◌, Bool, true, false, not, ◌&&◌, ◌≡◌, refl, List, [], ◌∷◌, ◌++◌, map, length, take, drop, eqb}
+use Rattle.std.specs.Prelude.{ℕ, zero, suc, ◌+◌, ◌/◌, ◌%◌, ◌^◌, Bool, true, false, not, ◌&&◌, ◌≡◌, refl, List, [], ◌∷◌, ◌++◌, map, length, take, drop, eqb, Ok, Err, Some, None}
 use Rattle.std.specs.Bool.{beq}
 use Rattle.rules.specs.Lists.{all, same, least_from, some_below, highest}
 use Rattle.rules.specs.States.{state_at}
@@ -28,40 +28,7 @@ use Rattle.rules.specs.Step.{
 }
 use Rattle.rules.specs.HandedIn.{bad_state}
 use Rattle.rules.specs.Rest.{after, least_rest}
-use Rattle.rules.specs.Answers.{
-  place,
-  is_done,
-  ◌and_then◌,
-  refuse_if,
-  refuse_at,
-  undefined_entry,
-  unfit_entry,
-  bad_bytes,
-  wrong_word,
-  unrooted,
-  bad_parent,
-  undefined_byte,
-  unfit,
-  too_many,
-  stray_first,
-  bad_node,
-  bad_rank,
-  formulas_check,
-  asks_too_many,
-  bad_wait,
-  header_check,
-  plans_check,
-  table_check,
-  bad_word,
-  lent_check,
-  rule_check,
-  call_check,
-  run_answer,
-}
-use Rattle.rules.specs.declared.Rest.{Rest}
-use Rattle.rules.specs.declared.Rest.TheVariants as rest
-use Rattle.rules.specs.declared.Figure.{Figure}
-use Rattle.rules.specs.declared.Figure.TheVariants as figure
+use Rattle.rules.specs.Answers.{place, is_done, ◌and_then◌, refuse_if, refuse_at, undefined_entry, unfit_entry, bad_bytes, wrong_word, unrooted, bad_parent, undefined_byte, unfit, too_many, stray_first, bad_node, bad_rank, formulas_check, asks_too_many, bad_wait, header_check, plans_check, table_check, bad_word, lent_check, rule_check, call_check, run_answer, Rest, Figure}
 use Rattle.demands.specs.Bound.{most_steps, nobody_retries, both_hold, nobody_holds_both, bound_check, bound_answer}
 
 -- Tables: a version, a number of plans and their entries. A root with this body, flags, conditions and m; a plan with this parent and the
@@ -134,9 +101,9 @@ path rule t w s [] = true
 path rule t w s (x ∷ xs) = same (step rule t s w) x && (not (same x s) && path rule t w x xs)
 
 is_rested : ℕ → Rest → Bool
-is_rested k (rest.Rested j) = eqb j k
-is_rested k rest.Moving = false
-is_rested k (rest.Refused why) = false
+is_rested k (Ok (Some j)) = eqb j k
+is_rested k (Ok None) = false
+is_rested k (Err why) = false
 
 pub data Row : Type 0 where
   -- a call that answers a figure: table, words, figure
@@ -159,19 +126,19 @@ abbrev pub rounds : List ℕ → List ℕ → List ℕ → List (List ℕ) → �
 rounds t w s shown rule = is_done (call_check rule t s w s) && path rule t w s (shown ++ (s ∷ []))
 
 is_within : ℕ → Figure → Bool
-is_within k (figure.Within j) = eqb j k
-is_within k figure.Unknown = false
-is_within k (figure.Refused why) = false
+is_within k (Ok (Some j)) = eqb j k
+is_within k (Ok None) = false
+is_within k (Err why) = false
 
 is_unknown : Figure → Bool
-is_unknown (figure.Within j) = false
-is_unknown figure.Unknown = true
-is_unknown (figure.Refused why) = false
+is_unknown (Ok (Some j)) = false
+is_unknown (Ok None) = true
+is_unknown (Err why) = false
 
 is_refused : ℕ → ℕ → Figure → Bool
-is_refused number plan (figure.Within j) = false
-is_refused number plan figure.Unknown = false
-is_refused number plan (figure.Refused why) =
+is_refused number plan (Ok (Some j)) = false
+is_refused number plan (Ok None) = false
+is_refused number plan (Err why) =
     eqb (place why).number number && eqb (place why).step 0 && eqb (place why).plan plan
 
 unfoldable pub holds_in : Row → Bool

@@ -8,7 +8,7 @@ use mathlib.Core.List.{List}
 use lib.Dec.{eqb, leb, ltb}
 use lib.ListN.{length}
 use borrow.Author.Tests.{eq-eqb, le-ltb}
-use Rattle.rules.specs.Lists.{same, least, Nowhere, no_plan}
+use Rattle.rules.specs.Lists.{same, least, no_plan}
 use Rattle.rules.specs.Bytes.{text}
 use Rattle.rules.specs.Table.{
   plan_count,
@@ -24,21 +24,8 @@ use Rattle.rules.specs.Table.{
   is_or_is_above,
 }
 use Rattle.rules.specs.WaitFor.{first_version, table_size}
-use Rattle.rules.specs.Answers.{
-  unrooted,
-  bad_parent,
-  undefined_entry,
-  undefined_byte,
-  unfit_entry,
-  unfit,
-  formulas_check,
-  bad_wait,
-  header_check,
-  plans_check,
-  table_check,
-}
+use Rattle.rules.specs.Answers.{unrooted, bad_parent, undefined_entry, undefined_byte, unfit_entry, unfit, formulas_check, bad_wait, header_check, plans_check, table_check, Done}
 use Rattle.rules.specs.declared.Body.TheVariants.{Leaf}
-use Rattle.rules.specs.declared.Outcome.TheVariants.{Done}
 use Rattle.rules.specs.declared.PlanEntry.{PlanEntry}
 use Rattle.rules.proofs.Outcomes.{first_done, then_done, if_done, pass, pass_last, pass_at, pass_at_last, then_next}
 use Rattle.rules.proofs.Tree.{Passes, tree}
@@ -46,9 +33,10 @@ use Rattle.lowest.proofs.Lowest.{lowest_none, ends_here}
 use Rattle.alike.proofs.SamePlans.{with_wait, SamePlans, plan_as, parent_as, before_as, children_as, above_as}
 use Rattle.faithful.proofs.Shape.{Moved, same_count, same_last, wait_is, same_plans}
 use Rattle.faithful.proofs.Passing.{room}
+use Rattle.std.specs.Prelude.{None}
 
 -- a search where nothing passes finds nothing
-pub none_found : (f : ℕ → Bool) (n : ℕ) → ((k : ℕ) → k < n → f k ≡ false) → least f n ≡ Nowhere
+pub none_found : (f : ℕ → Bool) (n : ℕ) → ((k : ℕ) → k < n → f k ≡ false) → least f n ≡ None
 none_found f n none = lowest_none f n n (ends_here f n n none refl) (omega arith)
 
 -- a table whose tests find nothing passes

@@ -13,9 +13,8 @@ use borrow.Author.Tests.{eq-eqb, ne_eqb, lt-ltb, le-ltb, lt-leb}
 use Rattle.rules.specs.Lists.{count, some, some_below}
 use Rattle.rules.specs.Table.{version, plan_count, entry, children}
 use Rattle.rules.specs.WaitFor.{asks, operands, node_count, node, is_leaf, first_nodes, asked_nodes, uses, owner}
-use Rattle.rules.specs.Answers.{too_many, stray_first, bad_bytes, bad_node, bad_rank, formulas_check, asks_too_many, bad_wait}
+use Rattle.rules.specs.Answers.{too_many, stray_first, bad_bytes, bad_node, bad_rank, formulas_check, asks_too_many, bad_wait, Done}
 use Rattle.rules.specs.declared.Node.{Node}
-use Rattle.rules.specs.declared.Outcome.TheVariants.{Done}
 use Rattle.rules.proofs.Outcomes.{pass, pass_at, pass_at_last}
 use Rattle.rules.proofs.Below.{none_below}
 use Rattle.rules.proofs.Tree.{Passes}

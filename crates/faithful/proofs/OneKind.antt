@@ -9,10 +9,9 @@ use borrow.Author.Tests.{eq-eqb, eqb-true, not-false}
 use Rattle.rules.specs.Lists.{some, some_below}
 use Rattle.rules.specs.Table.{plan_count, entry}
 use Rattle.rules.specs.WaitFor.{asks, operands, node_count, node, is_leaf, owner}
-use Rattle.rules.specs.Answers.{too_many, asks_too_many, bad_wait, bad_bytes, bad_node, formulas_check}
+use Rattle.rules.specs.Answers.{too_many, asks_too_many, bad_wait, bad_bytes, bad_node, formulas_check, Done}
 use Rattle.rules.specs.declared.Asks.{Asks}
 use Rattle.rules.specs.declared.Asks.TheVariants.{AtLeast}
-use Rattle.rules.specs.declared.Outcome.TheVariants.{Done}
 use Rattle.rules.proofs.Tree.{or_left, or_right}
 use Rattle.rules.proofs.Below.{none_below, none_true}
 use Rattle.nodes.proofs.Standing.{good, first_there, some_begins, first_stands}

@@ -8,9 +8,8 @@ use mathlib.Core.List.{List}
 use lib.ListN.{length}
 use Rattle.rules.specs.Table.{plan_count, entry}
 use Rattle.rules.specs.WaitFor.{asks, node, is_leaf}
-use Rattle.rules.specs.Answers.{too_many, bad_wait, table_check}
+use Rattle.rules.specs.Answers.{too_many, bad_wait, table_check, Done}
 use Rattle.rules.specs.declared.Asks.TheVariants.{AtLeast}
-use Rattle.rules.specs.declared.Outcome.TheVariants.{Done}
 use Rattle.rules.proofs.Tree.{Passes}
 use Rattle.versions.specs.Versions.{nodes_before, number_waited}
 use Rattle.alike.proofs.SamePlans.{plans_sym}

@@ -24,8 +24,7 @@ use Rattle.rules.specs.Table.{
   children,
 }
 use Rattle.rules.specs.WaitFor.{first_version, node_count, table_size, is_leaf}
-use Rattle.rules.specs.Answers.{stray_at, unfit_any, unfit_two, unfit_entry, unfit, header_check, table_check}
-use Rattle.rules.specs.declared.Outcome.TheVariants.{Done}
+use Rattle.rules.specs.Answers.{stray_at, unfit_any, unfit_two, unfit_entry, unfit, header_check, table_check, Done}
 use Rattle.rules.specs.declared.PlanEntry.{PlanEntry}
 use Rattle.rules.proofs.Outcomes.{first_done, then_done, if_done, pass, pass_last, then_next}
 use Rattle.rules.proofs.Tree.{Passes, or_left, or_right, passes, tree}

@@ -8,8 +8,7 @@ use mathlib.Core.List.{List}
 use lib.ListN.{length}
 use Rattle.rules.specs.Table.{plan_count}
 use Rattle.rules.specs.WaitFor.{node_count, node}
-use Rattle.rules.specs.Answers.{table_check}
-use Rattle.rules.specs.declared.Outcome.TheVariants.{Done}
+use Rattle.rules.specs.Answers.{table_check, Done}
 use Rattle.rules.proofs.Tree.{tree}
 use Rattle.versions.specs.Versions.{nodes_before, in_version2, number_waited, in_version1, in_plan_order, check_from, check_to2, check_to1}
 use Rattle.versions.proofs.Laid.{length_1, length_2}

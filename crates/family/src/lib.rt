@@ -44,7 +44,7 @@ pub fn orders(
         return root_orders();
     }
     let q = parent_at(table, p);
-    let before = PlanState::from_byte(old[q]);
+    let before = PlanState::from(old[q]);
     let rank = wide(ranks[p]);
     let chosen = rank == chosen_rank(sets, q, names[q], wide(picks[q]));
     let e = entry_at(table, q);
@@ -65,7 +65,7 @@ fn orders_if(
     requires { HasWords sets.now q }
     ensures { TellsOrdersIf sets.now q before after e word rank chosen result }
 {
-    if before.is(PlanState::Activated) & after.is(PlanState::Activated) {
+    if (before == PlanState::Activated) & (after == PlanState::Activated) {
         return orders_to(e, word, sets, q, rank, chosen);
     }
     no_orders()
@@ -141,7 +141,7 @@ fn due(body: Body, word: u32, sets: &[u64], q: usize, is_first: bool) -> bool
     requires { HasWords sets.now q }
     ensures { TellsDue sets.now q body word is_first result }
 {
-    if body.is(Body::IfThenElse) {
+    if (body == Body::IfThenElse) {
         return branch_taken(word, sets, q, is_first);
     }
     is_first | bad_turn(body, sets, q)
@@ -341,14 +341,14 @@ fn both_ended(body: Body, sets: &[u64], p: usize) -> bool
 fn after_abort(body: Body) -> bool
     ensures { result ≡ after_abort body }
 {
-    body.is(Body::OnAbort) | body.is(Body::OnAbortOrSuspend)
+    (body == Body::OnAbort) | (body == Body::OnAbortOrSuspend)
 }
 
 // Whether it is there for a first that is Suspended.
 fn after_suspend(body: Body) -> bool
     ensures { result ≡ after_suspend body }
 {
-    body.is(Body::OnSuspend) | body.is(Body::OnAbortOrSuspend)
+    (body == Body::OnSuspend) | (body == Body::OnAbortOrSuspend)
 }
 
 // The children of plan q that have not come to be Ready, as a word.

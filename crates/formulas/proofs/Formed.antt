@@ -10,8 +10,7 @@ use borrow.Author.Tests.{ltb-false}
 use Rattle.rules.specs.Lists.{some}
 use Rattle.rules.specs.Table.{plan_count}
 use Rattle.rules.specs.WaitFor.{asks, operands, first_version, node_count, node, table_size, uses}
-use Rattle.rules.specs.Answers.{stray_first, bad_bytes, bad_node, formulas_check}
-use Rattle.rules.specs.declared.Outcome.TheVariants.{Done}
+use Rattle.rules.specs.Answers.{stray_first, bad_bytes, bad_node, formulas_check, Done}
 use Rattle.rules.proofs.Least.{nowhere}
 use Rattle.rules.proofs.Outcomes.{first_done, then_done, if_done, at_done}
 use Rattle.rules.proofs.Tree.{or_left, or_right}

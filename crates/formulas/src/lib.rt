@@ -72,7 +72,7 @@ fn number_asked(table: &[u8], n: usize, p: usize) -> u64
     ensures { result ≡ number_asked table.now p }
 {
     let e = entry_at(table, p);
-    if e.body_kind().is(Body::Leaf) {
+    if (e.body_kind() == Body::Leaf) {
         return 0;
     }
     let node = node_at(table, wide(e.wait));

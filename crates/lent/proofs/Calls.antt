@@ -10,12 +10,10 @@ use Rattle.rules.specs.Bytes.{byte_at}
 use Rattle.rules.specs.Table.{plan_count, entry}
 use Rattle.rules.specs.Words.{word}
 use Rattle.rules.specs.HandedIn.{bad_state}
-use Rattle.rules.specs.Answers.{wrong_word, bad_word, rule_check, table_check, call_words_check, lent_check, call_check}
+use Rattle.rules.specs.Answers.{wrong_word, bad_word, rule_check, table_check, call_words_check, lent_check, call_check, Outcome, Done}
 use Rattle.rules.specs.declared.PlanEntry.{PlanEntry}
 use Rattle.rules.specs.declared.Refusal.{Refusal}
 use Rattle.rules.specs.declared.Refusal.TheVariants.{Lengths, State, Word}
-use Rattle.rules.specs.declared.Outcome.{Outcome}
-use Rattle.rules.specs.declared.Outcome.TheVariants.{Done, Refused}
 use Rattle.rules.proofs.Outcomes.{
   pass,
   stop,
@@ -34,6 +32,7 @@ use Rattle.table.specs.Facts.{Facts}
 use Rattle.table.proofs.Reading.{found_at, found_none, prepared}
 use Rattle.demands.proofs.PassedCall.{lengths_agree, table_passes, lengths, handed_in}
 use Rattle.lent.specs.Calls.{Counted, Tabled, Called, MayMove}
+use Rattle.std.specs.Prelude.{Err}
 
 -- a table that passes: its n plans have earlier parents
 pub rooted : (t : List ℕ) → table_check t ≡ Done → (n : ℕ) → n ≡ plan_count t → Rooted t n
@@ -58,7 +57,7 @@ module _ (t s w c : List ℕ) (n : ℕ) (whole : n ≡ plan_count t) where
   abbrev differ : Bool
   differ = not (eqb (length s) n) || not (eqb (length w) (4 * n)) || not (eqb (length c) n)
 
-  pub stops_at_lengths : differ ≡ true → lent_check t s w c ≡ Refused Lengths
+  pub stops_at_lengths : differ ≡ true → lent_check t s w c ≡ Err Lengths
   unfolding lent_check
   stops_at_lengths e = stop _ _ _ (rw whole at e)
 
@@ -69,7 +68,7 @@ module _ (t s w c : List ℕ) (n : ℕ) (whole : n ≡ plan_count t) where
         let long = lengths_agree t s w c (rw whole at agree) in
         (omega (arith, whole, long.0), omega (arith, whole, long.1))
 
-    pub stops_at_state : (p : ℕ) → Lowest (bad_state t s) n p → p < n → lent_check t s w c ≡ Refused (State p)
+    pub stops_at_state : (p : ℕ) → Lowest (bad_state t s) n p → p < n → lent_check t s w c ≡ Err (State p)
     unfolding lent_check
     stops_at_state p lowest l = pass _ _ _ (rw whole at agree) ∙ stop_at _ _ _ p (found_at t n whole _ p lowest l)
 
@@ -79,7 +78,7 @@ module _ (t s w c : List ℕ) (n : ℕ) (whole : n ≡ plan_count t) where
 
 -- check 12, by the lowest wrong word
 module _ (t w : List ℕ) (n : ℕ) (whole : n ≡ plan_count t) (p : ℕ) (lowest : Lowest (bad_word t w) n p) where
-  pub wrong_word_lem : p < n → call_words_check t w ≡ Refused (Word 0 p)
+  pub wrong_word_lem : p < n → call_words_check t w ≡ Err (Word 0 p)
   wrong_word_lem l = stop_at_last _ _ p (found_at t n whole _ p lowest l)
 
   pub right_words : n ≤ p → call_words_check t w ≡ Done
@@ -103,12 +102,12 @@ module _ (rule : ℕ) (t s w c ranks counts names : List ℕ) where
   abbrev CalledSo : Outcome → Type 0
   CalledSo outcome = Called rule t s w c ranks counts names outcome
 
-  pub call_unruled : (why : Refusal) → rule_check rule ≡ Refused why → CalledSo (Refused why)
+  pub call_unruled : (why : Refusal) → rule_check rule ≡ Err why → CalledSo (Err why)
   unfolding call_check
   call_unruled why e = record { is = sym (then_stops (rule_check rule) _ why e); facts = λ d. refused_not_done why d }
 
   module _ (ruled : rule_check rule ≡ Done) where
-    pub call_refused : (why : Refusal) → table_check t ≡ Refused why → CalledSo (Refused why)
+    pub call_refused : (why : Refusal) → table_check t ≡ Err why → CalledSo (Err why)
     unfolding call_check
     call_refused why e =
         record { is = sym (then_next (rule_check rule) _ ruled ∙ then_stops (table_check t) _ why e); facts = λ d. refused_not_done why d }

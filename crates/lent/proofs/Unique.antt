@@ -2,9 +2,7 @@
 -- the buffers of a call that passes then hold of the table's plans. The contract is taken as Rattle reads it. Assumes nothing.
 use mathlib.Core.Path.{◌≡◌, ◌∙◌}
 use contract.Lifetimes.{Lfts}
-use Rattle.rules.specs.Answers.{call_check}
-use Rattle.rules.specs.declared.Outcome.{Outcome}
-use Rattle.rules.specs.declared.Outcome.TheVariants.{Done}
+use Rattle.rules.specs.Answers.{call_check, Outcome, Done}
 use Rattle.rules.proofs.Unique.{one_answer, OneAnswer, by_equation}
 use Rattle.table.proofs.Unique.{SameFacts, facts_once}
 use Rattle.lent.proofs.check_call.Reads as check_call

@@ -2,12 +2,10 @@
 use Rattle.std.specs.Prelude.{ℕ, ◌+◌, ◌*◌, ◌≤◌, ◌<◌, ◌≡◌, List, length}
 use Rattle.rules.specs.Bytes.{byte_at}
 use Rattle.rules.specs.Table.{plan_count, children}
-use Rattle.rules.specs.Answers.{table_check, call_check}
+use Rattle.rules.specs.Answers.{table_check, call_check, Outcome, Done}
 use Rattle.children.specs.Sets.{Rooted}
 use Rattle.table.specs.Facts.{Facts, Prepared}
 use Rattle.demands.specs.PassesStates.{PassesStates}
-use Rattle.rules.specs.declared.Outcome.{Outcome}
-use Rattle.rules.specs.declared.Outcome.TheVariants.{Done}
 
 -- a table of n plans: a tree whose plans have states
 pub record Planned (t : List ℕ) (n : ℕ) (s : List ℕ) : Type 0 where

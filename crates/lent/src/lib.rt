@@ -14,7 +14,7 @@ ghost use Rattle.lent.specs.WordBits.{unused_bits, wrong_bits};
 ghost use Rattle.lent.specs.Calls.{Planned, Counted, Tabled, Called};
 
 use reading::{entry_at, parent_at, u16_at, word_at};
-use rules::{Body, Outcome, PlanEntry, PlanState, Refusal, is_rule, pick_of};
+use rules::{Body, PlanEntry, PlanState, Refusal, is_rule, pick_of};
 use table::read_table;
 
 // Checks 17 and 1 to 12 of a call. Where they pass, the buffers hold the table's facts.
@@ -27,33 +27,33 @@ pub fn check_call(
     ranks: &mut [u8],
     counts: &mut [u8],
     names: &mut [u64],
-) -> Outcome
+) -> Result<(), Refusal>
     requires { FactsRoom table.now ranks.old counts.old names.old }
     ensures { Called rule table.now states.now words.now causes.now
         ranks.new counts.new names.new result }
 {
     if !is_rule(rule) {
-        return Outcome::Refused(Refusal::RuleNumber);
+        return Err(Refusal::RuleNumber);
     }
     match read_table(table, ranks, counts, names) {
-        Outcome::Refused(why) => Outcome::Refused(why),
-        Outcome::Done => check_lent(table, counts, states, words, causes),
+        Err(why) => Err(why),
+        Ok(()) => check_lent(table, counts, states, words, causes),
     }
 }
 
 // Check 12 of the words of a call, which are as many as the n plans of its table.
-pub fn check_words(table: &[u8], n: usize, counts: &[u8], words: &[u8]) -> Outcome
+pub fn check_words(table: &[u8], n: usize, counts: &[u8], words: &[u8]) -> Result<(), Refusal>
     requires { Counted table.now n counts.now words.now }
     ensures { result ≡ call_words_check table.now words.now }
 {
     let word = lowest_bad_word(table, n, counts, words);
     if word < n {
-        return Outcome::Refused(Refusal::Word {
+        return Err(Refusal::Word {
             step: 0,
             plan: word as u16,
         });
     }
-    Outcome::Done
+    Ok(())
 }
 
 // The part of check 12 that calls and records share, by the bits that the word may not have and whether its pick is allowed: an unused
@@ -69,24 +69,24 @@ pub fn wrong_word_if(x: u32, unused: u32, pick_allowed: bool) -> bool
 pub fn unused_bits(body: Body) -> u32
     ensures { result ≡ unused_bits body }
 {
-    if body.is(Body::IfThenElse) {
+    if (body == Body::IfThenElse) {
         return 0xC0C0_0000;
     }
     0xC0F0_0000
 }
 
 // Checks 10 to 12 of a call whose table passes.
-fn check_lent(table: &[u8], counts: &[u8], states: &[u8], words: &[u8], causes: &[u8]) -> Outcome
+fn check_lent(table: &[u8], counts: &[u8], states: &[u8], words: &[u8], causes: &[u8]) -> Result<(), Refusal>
     requires { Tabled table.now counts.now }
     ensures { result ≡ lent_check table.now states.now words.now causes.now }
 {
     let n = u16_at(table, 5) as usize;
     if (states.len() != n) | (words.len() != 4 * n) | (causes.len() != n) {
-        return Outcome::Refused(Refusal::Lengths);
+        return Err(Refusal::Lengths);
     }
     let state = lowest_bad_state(table, n, states);
     if state < n {
-        return Outcome::Refused(Refusal::State { plan: state as u16 });
+        return Err(Refusal::State { plan: state as u16 });
     }
     check_words(table, n, counts, words)
 }
@@ -115,8 +115,8 @@ fn lowest_bad_state(table: &[u8], n: usize, states: &[u8]) -> usize
         }
         let e = entry_at(table, q);
         let body = e.body_kind();
-        let child = PlanState::from_byte(states[p]);
-        let fits = child_suits(PlanState::from_byte(states[q]), child);
+        let child = PlanState::from(states[p]);
+        let fits = child_suits(PlanState::from(states[q]), child);
         if !fits | breaks_by(body, child, alone[q] == 1, shut[q] == 1) {
             return p;
         }
@@ -131,7 +131,7 @@ fn lowest_bad_state(table: &[u8], n: usize, states: &[u8]) -> usize
 fn child_suits(parent: PlanState, child: PlanState) -> bool
     ensures { result ≡ suits parent child }
 {
-    let idle = child.is(PlanState::Inactive);
+    let idle = (child == PlanState::Inactive);
     match parent {
         PlanState::Inactive
         | PlanState::Considered
@@ -139,7 +139,7 @@ fn child_suits(parent: PlanState, child: PlanState) -> bool
         | PlanState::Ready
         | PlanState::Rejected => idle,
         PlanState::Activated => true,
-        PlanState::Suspended => !child.is(PlanState::Activated),
+        PlanState::Suspended => (child != PlanState::Activated),
         PlanState::Completed | PlanState::Aborted => idle | child.is_ended(),
     }
 }
@@ -148,7 +148,7 @@ fn child_suits(parent: PlanState, child: PlanState) -> bool
 fn breaks_by(body: Body, child: PlanState, alone: bool, shut: bool) -> bool
     ensures { result ≡ breaks_by body child alone shut }
 {
-    let begun = !child.is(PlanState::Inactive);
+    let begun = (child != PlanState::Inactive);
     match body {
         Body::Leaf => false,
         Body::Sequential => begun & shut,
@@ -166,7 +166,7 @@ fn breaks_by(body: Body, child: PlanState, alone: bool, shut: bool) -> bool
 fn stands_alone(body: Body, child: PlanState) -> bool
     ensures { result ≡ stands_alone body child }
 {
-    child.in_execution() | (body.is(Body::IfThenElse) & !child.is(PlanState::Inactive))
+    child.in_execution() | ((body == Body::IfThenElse) & (child != PlanState::Inactive))
 }
 
 // Whether a later child may be other than Inactive behind one in this state. What it says of if-then-else is not read: there a child that
@@ -180,10 +180,10 @@ fn lets_later(body: Body, again: bool, state: PlanState) -> bool
         Body::Parallel => true,
         Body::AnyOrder => true,
         Body::Unordered => true,
-        Body::OnAbort => state.is(PlanState::Aborted),
+        Body::OnAbort => (state == PlanState::Aborted),
         Body::OnSuspend => state.has_run(),
         Body::OnAbortOrSuspend => state.has_run(),
-        Body::IfThenElse => state.is(PlanState::Inactive),
+        Body::IfThenElse => (state == PlanState::Inactive),
     }
 }
 
@@ -229,7 +229,7 @@ fn wrong_word(e: PlanEntry, count: u8, x: u32) -> bool
 fn may_pick(body: Body, count: u8, pick: u32) -> bool
     ensures { result ≡ pick_allowed body count pick }
 {
-    if body.is(Body::AnyOrder) {
+    if (body == Body::AnyOrder) {
         return pick < count as u32;
     }
     pick == 0

@@ -3,12 +3,12 @@ use Prim.Native.Nat.{ℕ, zero, suc, ◌-◌, ◌≤◌, ◌<◌}
 use native.Mathlib.Omega.{arith}
 use native.Mathlib.Nat.{sub-zero}
 use native.Mathlib.Numerals.{add-one}
-use native.Mathlib.Decide.{dec_lt}
 use mathlib.Core.Path.{◌≡◌, refl, sym, ◌∙◌, ap}
-use mathlib.Core.Bool.{Bool, true, false, cond, true≢false, ◌||◌, or-true}
+use mathlib.Core.Bool.{Bool, true, false, cond, ◌||◌, or-true}
 use lib.Dec.{ltb}
 use borrow.Author.Tests.{ltb-true, ltb-false}
-use Rattle.rules.specs.Lists.{least_from, least, Nowhere, At}
+use Rattle.std.specs.Prelude.{Option, Some, None}
+use Rattle.rules.specs.Lists.{least_from, least}
 use Rattle.rules.proofs.Least.{least_here, least_more, least_end}
 use Rattle.lowest.specs.Lowest.{Lowest}
 
@@ -20,59 +20,43 @@ skip f n (suc r) l h =
     ∙ least_more f r n (omega arith) (h r (omega arith))
     ∙ ap (λ (i : ℕ). least_from f i (n - i)) (add-one r)
 
-module _ (f : ℕ → Bool) (n r : ℕ) (lowest : Lowest f n r) where
-  pub lowest_at : r < n → least f n ≡ At r
-  lowest_at h = skip f n r lowest.within lowest.before ∙ least_here f r n h (lowest.found h)
+-- it is the least
+pub lowest_is : (f : ℕ → Bool) (n : ℕ) (r : Option ℕ) → Lowest f n r → least f n ≡ r
+lowest_is f n None none = skip f n n (omega arith) none ∙ least_end f n n (omega arith)
+lowest_is f n (Some r) (l, found, before) = skip f n r (omega arith) before ∙ least_here f r n l found
 
-  pub lowest_none : n ≤ r → least f n ≡ Nowhere
-  lowest_none h = skip f n r lowest.within lowest.before ∙ least_end f r n h
-
--- what a search that goes up from 0 answers, where nothing before p passes
-module _ (f : ℕ → Bool) (n p : ℕ) (before : (k : ℕ) → k < p → f k ≡ false) where
-  pub stops_here : p < n → f p ≡ true → Lowest f n p
-  stops_here l e = record { within = omega arith; before = before; found = λ _. e }
-
-  pub ends_here : p ≡ n → Lowest f n p
-  ends_here e = record { within = omega arith; before = before; found = λ l. absurd (omega arith) }
+-- so there is one answer to a search
+pub lowest_once : (f : ℕ → Bool) (n : ℕ) (r r' : Option ℕ) → Lowest f n r → Lowest f n r' → r ≡ r'
+lowest_once f n r r' a b = sym (lowest_is f n r a) ∙ lowest_is f n r' b
 
 -- a search by a test that says the same
-pub lowest_as : (f g : ℕ → Bool) (n r : ℕ) → ((k : ℕ) → f k ≡ g k) → Lowest f n r → Lowest g n r
-lowest_as f g n r same h =
-    record {
-      within = h.within;
-      before = λ k l. sym (same k) ∙ h.before k l;
-      found = λ l. sym (same r) ∙ h.found l;
-    }
+pub lowest_as : (f g : ℕ → Bool) (n : ℕ) (r : Option ℕ) → ((k : ℕ) → f k ≡ g k) → Lowest f n r → Lowest g n r
+lowest_as f g n None same none = λ k l. sym (same k) ∙ none k l
+lowest_as f g n (Some r) same (l, found, before) = (l, sym (same r) ∙ found, λ k m. sym (same k) ∙ before k m)
+
+-- the lower of two answers
+abbrev pub lower : Option ℕ → Option ℕ → Option ℕ
+lower None b = b
+lower (Some a) None = Some a
+lower (Some a) (Some b) = Some (cond (ltb a b) a b)
 
 -- a search for either of two is a search for each: the lower one is the answer
 pub lowest_either :
-    (f g : ℕ → Bool) (n a b r : ℕ) → Lowest f n a → Lowest g n b → r ≡ cond (ltb a b) a b → Lowest (λ k. f k || g k) n r
-lowest_either f g n a b r at_a at_b e = go (ltb a b) refl e
+    (f g : ℕ → Bool) (n : ℕ) (a b : Option ℕ) → Lowest f n a → Lowest g n b → Lowest (λ k. f k || g k) n (lower a b)
+lowest_either f g n None None no_f no_g = λ k l. rw (no_f k l, no_g k l) refl
+lowest_either f g n None (Some b) no_f (l, found, before) =
+    (l, rw (no_f b l, found) refl, λ k m. rw (no_f k (omega (arith, l)), before k m) refl)
+lowest_either f g n (Some a) None (l, found, before) no_g =
+    (l, rw found refl, λ k m. rw (before k m, no_g k (omega (arith, l))) refl)
+lowest_either f g n (Some a) (Some b) (l, found, before) (l', found', before') = go (ltb a b) refl
   where
     neither : (k : ℕ) → k < a → k < b → (f k || g k) ≡ false
-    neither k l m = rw (at_a.before k l, at_b.before k m) refl
+    neither k i j = rw (before k i, before' k j) refl
 
-    go : (less : Bool) → ltb a b ≡ less → r ≡ cond less a b → Lowest (λ k. f k || g k) n r
-    go true l is =
-        let below = ltb-true a b l in
-        rw is (stops_here _ n a (λ k m. neither k m (omega arith)) (omega (arith, at_b.within)) (rw (at_a.found (omega (arith, at_b.within))) refl))
-    go false l is =
-        let above = ltb-false a b l in
-        rw is
-        (record {
-          within = at_b.within;
-          before = λ k m. neither k (omega arith) m;
-          found = λ m. rw (at_b.found m) (or-true (f b));
-        })
-
--- there is one answer to a search
-pub lowest_once : (f : ℕ → Bool) (n r r' : ℕ) → Lowest f n r → Lowest f n r' → r ≡ r'
-lowest_once f n r r' a b = go (dec_lt r r') (dec_lt r' r)
-  where
-    not_before : (x y : ℕ) → Lowest f n x → Lowest f n y → x < y → ⊥
-    not_before x y at_x at_y l = true≢false (sym (at_x.found (omega (arith, at_y.within))) ∙ at_y.before x l)
-
-    go : Dec (r < r') → Dec (r' < r) → r ≡ r'
-    go (yes l) m = absurd (not_before r r' a b l)
-    go (no l) (yes m) = absurd (not_before r' r b a m)
-    go (no l) (no m) = omega arith
+    go : (less : Bool) → ltb a b ≡ less → Lowest (λ k. f k || g k) n (Some (cond less a b))
+    go true e =
+        let below = ltb-true a b e in
+        (l, rw found refl, λ k m. neither k m (omega arith))
+    go false e =
+        let above = ltb-false a b e in
+        (l', rw found' (or-true (f b)), λ k m. neither k (omega arith) m)

@@ -1,8 +1,7 @@
 -- The answer of a search for the lowest number that passes a test. Assumes nothing.
-use Rattle.std.specs.Prelude.{ℕ, ◌≤◌, ◌<◌, ◌≡◌, Bool, true, false}
+use Rattle.std.specs.Prelude.{ℕ, ◌<◌, ◌≡◌, Bool, true, false, Option, Some, None}
 
--- r is the lowest number below n that passes the test, or n where none does
-pub record Lowest (f : ℕ → Bool) (n r : ℕ) : Type 0 where
-  pub within : r ≤ n
-  pub before : (k : ℕ) → k < r → f k ≡ false
-  pub found : r < n → f r ≡ true
+-- the answer is the lowest number below n that passes the test, and none where none does
+abbrev pub Lowest : (ℕ → Bool) → ℕ → Option ℕ → Type 0
+Lowest f n None = (k : ℕ) → k < n → f k ≡ false
+Lowest f n (Some r) = (r < n) × (f r ≡ true) × ((k : ℕ) → k < r → f k ≡ false)

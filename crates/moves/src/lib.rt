@@ -51,9 +51,9 @@ pub fn next_state(
         (Step·chosen table.now old.now (picks_of picks.now)) new.now p }
 {
     let parent = parent_state(table, new, p);
-    let state = PlanState::from_byte(old[p]);
+    let state = PlanState::from(old[p]);
     // by the parent's new state: Inactive or selection
-    if parent.is(PlanState::Inactive) || parent.in_selection() {
+    if (parent == PlanState::Inactive) || parent.in_selection() {
         return PlanState::Inactive;
     }
     // the parent has ended
@@ -105,7 +105,7 @@ pub fn next_state(
                 | too_many_lost(rule, table, n, names, sets, p)
             {
                 PlanState::Aborted
-            } else if parent.is(PlanState::Suspended) | holds(Condition::Suspend, table, words, p) {
+            } else if (parent == PlanState::Suspended) | holds(Condition::Suspend, table, words, p) {
                 PlanState::Suspended
             } else if holds(Condition::Complete, table, words, p)
                 & may_complete(table, n, names, sets, p)
@@ -120,7 +120,7 @@ pub fn next_state(
                 | too_many_lost(rule, table, n, names, sets, p)
             {
                 PlanState::Aborted
-            } else if parent.is(PlanState::Activated)
+            } else if (parent == PlanState::Activated)
                 & holds(Condition::Reactivate, table, words, p)
             {
                 PlanState::Activated
@@ -147,10 +147,10 @@ pub fn cause(table: &[u8], old: &[u8], words: &[u8], new: &[u8], p: usize) -> Ca
     requires { CauseFacts table.now old.now words.now new.now p }
     ensures { result ≡ cause_told table.now old.now words.now new.now p }
 {
-    let was = PlanState::from_byte(old[p]);
-    let state = PlanState::from_byte(new[p]);
+    let was = PlanState::from(old[p]);
+    let state = PlanState::from(new[p]);
     // most plans stay: nothing more is read of them
-    if state.is(was) {
+    if (state == was) {
         return Cause::Unmoved;
     }
     cause_of_move(
@@ -166,14 +166,14 @@ fn cause_of_move(parent: PlanState, aborts: bool, was: PlanState, state: PlanSta
     ensures { result ≡ cause_of_move parent aborts was state }
 {
     // under a parent that is not in execution a plan is reset, Rejected or Aborted; under a Suspended one it is suspended
-    if !parent.in_execution() | (parent.is(PlanState::Suspended) & state.is(PlanState::Suspended)) {
+    if !parent.in_execution() | ((parent == PlanState::Suspended) & (state == PlanState::Suspended)) {
         return Cause::Forced;
     }
     // considered, for the first time or again; and what was Ready is activated
-    if state.is(PlanState::Considered) | was.is(PlanState::Ready) {
+    if (state == PlanState::Considered) | (was == PlanState::Ready) {
         return Cause::Ordered;
     }
-    if state.is(PlanState::Aborted) & !aborts {
+    if (state == PlanState::Aborted) & !aborts {
         return Cause::ChildrenLost;
     }
     Cause::OwnCondition
@@ -188,7 +188,7 @@ fn parent_state(table: &[u8], states: &[u8], p: usize) -> PlanState
         return PlanState::Activated;
     }
     let q = parent_at(table, p);
-    PlanState::from_byte(states[q])
+    PlanState::from(states[q])
 }
 
 // Whether a condition of plan p holds, by the plan's entry and input word (RULES 4.3). An absent suspend or abort never holds, any other

@@ -13,25 +13,12 @@ use lib.ListN.{length, get_or, set, length-set}
 use lib.Seq.{get_or-set_same, get_or-set_other}
 use borrow.Author.Tests.{eq-eqb, ne_eqb, leb-true, leb-false, le-leb, ltb-true, lt-ltb, le-ltb}
 use Rattle.rules.specs.Bytes.{byte_at}
-use Rattle.rules.specs.Lists.{some, some_below, highest, least, Found, Nowhere, At}
+use Rattle.rules.specs.Lists.{some, some_below, highest, least}
 use Rattle.rules.specs.Table.{plan_count, entry, body_of, is_body, named, children}
 use Rattle.rules.specs.WaitFor.{asks, operands, node_count, node, uses_node, begins_with, first_nodes, asked_nodes, owner_within, owner}
-use Rattle.rules.specs.Answers.{
-  ◌and_then◌,
-  refuse_at,
-  too_many,
-  stray_first,
-  bad_bytes,
-  bad_node,
-  bad_rank,
-  bad_wait,
-  asks_too_many,
-  formulas_check,
-}
+use Rattle.rules.specs.Answers.{◌and_then◌, refuse_at, too_many, stray_first, bad_bytes, bad_node, bad_rank, bad_wait, asks_too_many, formulas_check, Outcome}
 use Rattle.rules.specs.declared.Body.TheVariants.{Leaf}
 use Rattle.rules.specs.declared.Node.{Node}
-use Rattle.rules.specs.declared.Outcome.{Outcome}
-use Rattle.rules.specs.declared.Outcome.TheVariants.{Refused}
 use Rattle.rules.specs.declared.PlanEntry.{PlanEntry}
 use Rattle.rules.specs.declared.Refusal.TheVariants.{Formula}
 use Rattle.rules.proofs.Least.{nowhere}
@@ -43,6 +30,7 @@ use Rattle.lowest.specs.Lowest.{Lowest}
 use Rattle.lowest.proofs.Lowest.{lowest_at, lowest_none, ends_here}
 use Rattle.nodes.specs.Checking.{HasNodes, Uses, asks_node, joins, bad_operands, FirstOwners, Owners, asking}
 use Rattle.nodes.proofs.Operands.{operands_are}
+use Rattle.std.specs.Prelude.{Option, Err, Some, None}
 
 -- the highest number that is found is below those looked through
 bounded : (b : Bool) (n x : ℕ) → x ≤ n → cond b n x ≤ n
@@ -426,16 +414,16 @@ unfolding first_nodes asked_nodes
 no_uses t buffer empty room = record { room = room; used = λ j l. empty j l }
 
 -- a search finds something if and only if there is something
-least_some : (f : ℕ → Bool) (n : ℕ) (x : Found) → least f n ≡ x → some_below f n ≡ true → (p : ℕ) × (least f n ≡ At p)
-least_some f n Nowhere e h = absurd (true≢false (sym h ∙ none_below f n (nowhere f n e)))
-least_some f n (At p) e h = (p, e)
+least_some : (f : ℕ → Bool) (n : ℕ) (x : Option ℕ) → least f n ≡ x → some_below f n ≡ true → (p : ℕ) × (least f n ≡ Some p)
+least_some f n None e h = absurd (true≢false (sym h ∙ none_below f n (nowhere f n e)))
+least_some f n (Some p) e h = (p, e)
 
-least_none : (f : ℕ → Bool) (n : ℕ) → some_below f n ≡ false → least f n ≡ Nowhere
+least_none : (f : ℕ → Bool) (n : ℕ) → some_below f n ≡ false → least f n ≡ None
 least_none f n h = lowest_none f n n (ends_here f n n (none_true f n h) refl) (omega arith)
 
 -- Where check 22 stops, before a next check.
 module _ (t : List ℕ) (n k : ℕ) (nodes : HasNodes t n k) (next : Outcome) where
-  pub many_nodes : 256 < k → (formulas_check t and_then next) ≡ Refused (Formula 0)
+  pub many_nodes : 256 < k → (formulas_check t and_then next) ≡ Err (Formula 0)
   unfolding formulas_check
   many_nodes l =
       then_stops (formulas_check t) next (Formula 0) (stop _ _ _ (lt-ltb 256 (node_count t) (omega (arith, nodes.nodes))))
@@ -444,17 +432,17 @@ module _ (t : List ℕ) (n k : ℕ) (nodes : HasNodes t n k) (next : Outcome) wh
     few_nodes : ltb 256 (node_count t) ≡ false
     few_nodes = le-ltb 256 (node_count t) (omega (arith, nodes.nodes))
 
-    pub stray_first_lem : some_below (stray_first t) n ≡ true → (formulas_check t and_then next) ≡ Refused (Formula 0)
+    pub stray_first_lem : some_below (stray_first t) n ≡ true → (formulas_check t and_then next) ≡ Err (Formula 0)
     unfolding formulas_check
     stray_first_lem h =
         let found = least_some (stray_first t) (plan_count t) _ refl (rw nodes.whole at h) in
         then_stops (formulas_check t) next (Formula 0) (pass _ _ _ few_nodes ∙ stop_at _ _ _ found.0 found.1)
 
     module _ (first : some_below (stray_first t) n ≡ false) (r : ℕ) (lowest : Lowest (bad_node t) k r) where
-      no_stray : least (stray_first t) (plan_count t) ≡ Nowhere
+      no_stray : least (stray_first t) (plan_count t) ≡ None
       no_stray = least_none (stray_first t) (plan_count t) (rw nodes.whole at first)
 
-      pub bad_node_lem : r < k → (formulas_check t and_then next) ≡ Refused (Formula r)
+      pub bad_node_lem : r < k → (formulas_check t and_then next) ≡ Err (Formula r)
       unfolding formulas_check
       bad_node_lem l =
           then_stops (formulas_check t) next (Formula r)

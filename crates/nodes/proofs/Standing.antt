@@ -23,8 +23,7 @@ use Rattle.rules.specs.WaitFor.{
   uses,
   owner,
 }
-use Rattle.rules.specs.Answers.{stray_first, bad_bytes, bad_node, formulas_check}
-use Rattle.rules.specs.declared.Outcome.TheVariants.{Done}
+use Rattle.rules.specs.Answers.{stray_first, bad_bytes, bad_node, formulas_check, Done}
 use Rattle.rules.proofs.Least.{nowhere}
 use Rattle.rules.proofs.Outcomes.{first_done, then_done, at_done}
 use Rattle.rules.proofs.Tree.{or_left, or_right}

@@ -15,29 +15,29 @@ ghost use Rattle.nodes.specs.Checking.{HasNodes, Uses, used_once_more, bad_opera
 ghost use Rattle.nodes.specs.Checking.{asks_node, joins};
 
 use reading::{entry_at, is_leaf, node_at, node_count};
-use rules::{Node, Outcome, Refusal, at_least};
+use rules::{Node, Refusal, at_least};
 
 // Checks 22 and 9 of a table of version 2, with its plans' numbers of children and named children.
-pub fn check_formulas(table: &[u8], n: usize, counts: &[u8], names: &[u64]) -> Outcome
+pub fn check_formulas(table: &[u8], n: usize, counts: &[u8], names: &[u64]) -> Result<(), Refusal>
     requires { HasNodes table.now n (node_count table.now) × Children table.now n counts.now names.now }
     ensures { result ≡ (formulas_check table.now and_then refuse_at Wait (least (bad_wait table.now) n)) }
 {
     let k = node_count(table);
     if (256 < k) || has_stray_first(table, n, k) {
-        return Outcome::Refused(Refusal::Formula { node: 0 });
+        return Err(Refusal::Formula { node: 0 });
     }
     let mut uses = [0u8; 256];
     count_firsts(table, n, &mut uses);
     count_asked(table, n, k, &mut uses);
     let bad = lowest_bad_node(table, n, k, &uses);
     if bad < k {
-        return Outcome::Refused(Refusal::Formula { node: bad as u16 });
+        return Err(Refusal::Formula { node: bad as u16 });
     }
     check_asked(table, n, k, counts, names)
 }
 
 // The rest of 22, and 9: the ranks and numbers that nodes ask for, each of the plan in whose formula it stands.
-fn check_asked(table: &[u8], n: usize, k: usize, counts: &[u8], names: &[u64]) -> Outcome
+fn check_asked(table: &[u8], n: usize, k: usize, counts: &[u8], names: &[u64]) -> Result<(), Refusal>
     requires nodes { HasNodes table.now n k × (k ≤ 256) × ((i : ℕ) → i < k → bad_node table.now i ≡ false) }
     requires children { Children table.now n counts.now names.now }
     ensures { result ≡ (refuse_at Formula (least (bad_rank table.now) k)
@@ -48,13 +48,13 @@ fn check_asked(table: &[u8], n: usize, k: usize, counts: &[u8], names: &[u64]) -
     own_asked(table, n, k, &mut owners);
     let bad = lowest_bad_rank(table, n, k, counts, &owners);
     if bad < k {
-        return Outcome::Refused(Refusal::Formula { node: bad as u16 });
+        return Err(Refusal::Formula { node: bad as u16 });
     }
     let plan = lowest_asking(table, n, k, names, &owners);
     if plan < n {
-        return Outcome::Refused(Refusal::Wait { plan: plan as u16 });
+        return Err(Refusal::Wait { plan: plan as u16 });
     }
-    Outcome::Done
+    Ok(())
 }
 
 // Whether the formula of some plan would begin with a node that is not there.

@@ -102,7 +102,7 @@ pub fn find_picks(
             continue;
         }
         let q = parent_at(table, p);
-        let any_order = entry_at(table, q).body_kind().is(Body::AnyOrder);
+        let any_order = (entry_at(table, q).body_kind() == Body::AnyOrder);
         if (kept[q] == PlanState::ACTIVATED) | !any_order {
             continue;
         }

@@ -10,8 +10,7 @@ use Rattle.rules.specs.States.{cause_code, state_at}
 use Rattle.rules.specs.Table.{plan_count, parent}
 use Rattle.rules.specs.Words.{word, pick_of}
 use Rattle.rules.specs.Step.{chosen, new_state, step_first, step_by, step_under, step, causes_to, causes}
-use Rattle.rules.specs.Answers.{table_check}
-use Rattle.rules.specs.declared.Outcome.TheVariants.{Done}
+use Rattle.rules.specs.Answers.{table_check, Done}
 use Rattle.rules.proofs.Below.{length_map_below, at_map_below, same_map_below}
 use Rattle.rules.proofs.Tree.{Tree, tree, passes}
 use Rattle.demands.proofs.States.{is_it}

@@ -10,7 +10,7 @@ ghost use Rattle.time.specs.Search.{low, high, far, window, admitted, over, next
 ghost use Rattle.time.specs.Search.{can_be, not_yet, answer, judgement_of};
 ghost use Rattle.time.specs.Search.{Small, Named, Worked, SmallWindow, NamedPass, Near, NearBound, NearAll};
 
-use rules::{Outcome, Refusal};
+use rules::{Refusal};
 use time::{Annotation, Bound, Judgement, Pass, Window};
 
 // A number of minutes z is counted as z + BASE.
@@ -26,8 +26,8 @@ pub fn judge(numbers: &[u64; 7], samples: &[u64], minute: u64) -> Judgement
     let a = annotation(numbers);
     let asked = counted(minute);
     match check(a, samples, asked) {
-        Outcome::Refused(why) => Judgement::Refused(why),
-        Outcome::Done => judged(a, samples, asked),
+        Err(why) => Judgement::Refused(why),
+        Ok(()) => judged(a, samples, asked),
     }
 }
 
@@ -41,23 +41,23 @@ fn judged(a: Annotation, samples: &[u64], asked: u64) -> Judgement
 }
 
 // Puts the normal form of an annotation in its place, or refuses with 18, 21 or 26 and changes nothing.
-pub fn normalise(numbers: &mut [u64; 7]) -> Outcome
+pub fn normalise(numbers: &mut [u64; 7]) -> Result<(), Refusal>
     ensures { Normalised numbers.old result numbers.new }
 {
     let a = annotation(numbers);
     if !annotation_in_range(a) {
-        return Outcome::Refused(Refusal::ValueRange);
+        return Err(Refusal::ValueRange);
     }
     // a run that may start before all bounds
     if !starts_from(window(a, BASE), 0) {
-        return Outcome::Refused(Refusal::NoInterval);
+        return Err(Refusal::NoInterval);
     }
     let n = normal(a);
     if !annotation_in_range(n) {
-        return Outcome::Refused(Refusal::NormalRange);
+        return Err(Refusal::NormalRange);
     }
     put(n, numbers);
-    Outcome::Done
+    Ok(())
 }
 
 // A number in two's complement, counted.
@@ -184,7 +184,7 @@ fn ordered_in_range(samples: &[u64], asked: u64) -> bool
 }
 
 // Checks 18 to 20 of the samples. Where they are in order, one minute tells 18; where they are not, all must be looked at.
-fn check_samples(samples: &[u64], asked: u64) -> Outcome
+fn check_samples(samples: &[u64], asked: u64) -> Result<(), Refusal>
     requires { asked ≤ 5000000000 }
     ensures { result ≡ samples_check samples.now asked }
 {
@@ -192,34 +192,34 @@ fn check_samples(samples: &[u64], asked: u64) -> Outcome
         return check_ordered(samples, asked);
     }
     if !samples_in_range(samples) {
-        return Outcome::Refused(Refusal::ValueRange);
+        return Err(Refusal::ValueRange);
     }
     if 1024 < samples.len() {
-        return Outcome::Refused(Refusal::ManySamples);
+        return Err(Refusal::ManySamples);
     }
-    Outcome::Refused(Refusal::TimesOrder)
+    Err(Refusal::TimesOrder)
 }
 
 // Checks 18 and 19 of samples in order.
-fn check_ordered(samples: &[u64], asked: u64) -> Outcome
+fn check_ordered(samples: &[u64], asked: u64) -> Result<(), Refusal>
     requires { (in_order samples.now asked ≡ true) × (asked ≤ 5000000000) }
     ensures { result ≡ samples_check samples.now asked }
 {
     if !ordered_in_range(samples, asked) {
-        return Outcome::Refused(Refusal::ValueRange);
+        return Err(Refusal::ValueRange);
     }
     if 1024 < samples.len() {
-        return Outcome::Refused(Refusal::ManySamples);
+        return Err(Refusal::ManySamples);
     }
-    Outcome::Done
+    Ok(())
 }
 
 // Checks 18 to 20.
-fn check(a: Annotation, samples: &[u64], asked: u64) -> Outcome
+fn check(a: Annotation, samples: &[u64], asked: u64) -> Result<(), Refusal>
     ensures { result ≡ pattern_check a samples.now asked }
 {
     if !(annotation_in_range(a) & in_range(asked)) {
-        return Outcome::Refused(Refusal::ValueRange);
+        return Err(Refusal::ValueRange);
     }
     check_samples(samples, asked)
 }

@@ -1,13 +1,13 @@
 -- What is printed: examples, each computed. Assumes nothing.
-use Rattle.std.specs.Prelude.{◌≡◌, refl, [], ◌∷◌}
+use Rattle.std.specs.Prelude.{◌≡◌, refl, [], ◌∷◌, Err}
 use Rattle.rules.specs.Bytes.{text}
 use Rattle.rules.specs.Program.{decimal_to}
 use Rattle.rules.specs.declared.Refusal.TheVariants.{ManySamples, NoInterval, NormalRange}
-use Rattle.rules.specs.declared.Outcome.TheVariants.{Done, Refused}
-use Rattle.time.specs.declared.Judgement.TheVariants.{Satisfied, Satisfiable, Neither, Refused as RefusedFor}
+use Rattle.time.specs.declared.Judgement.TheVariants.{Satisfied, Satisfiable, Neither, Err as RefusedFor}
 use Rattle.statements.specs.Cases.{minus}
 use Rattle.statements.specs.declared.Fault.TheVariants.{Again}
 use Rattle.printing.specs.Printing.{shifts_text, durations_text, wrong_text, answer_text}
+use Rattle.rules.specs.Answers.{Done}
 
 wrong_prints : wrong_text 3 Again ≡ text "line 3: said before\n"
 unfolding decimal_to
@@ -20,14 +20,14 @@ unfolding decimal_to shifts_text durations_text
 ward_prints = refl
 
 -- not satisfied, and still to be or not; no normal form; a question that is refused
-yet_prints : answer_text Satisfiable (Refused NormalRange) [] ≡ text "not satisfied\nsatisfiable\nno normal form: refused 26 0 0\n"
+yet_prints : answer_text Satisfiable (Err NormalRange) [] ≡ text "not satisfied\nsatisfiable\nno normal form: refused 26 0 0\n"
 unfolding decimal_to
 yet_prints = refl
 
-never_prints : answer_text Neither (Refused NoInterval) [] ≡ text "not satisfied\nnot satisfiable\nno normal form: refused 21 0 0\n"
+never_prints : answer_text Neither (Err NoInterval) [] ≡ text "not satisfied\nnot satisfiable\nno normal form: refused 21 0 0\n"
 unfolding decimal_to
 never_prints = refl
 
-refused_prints : answer_text (RefusedFor ManySamples) (Refused NoInterval) [] ≡ text "refused 19 0 0\n"
+refused_prints : answer_text (RefusedFor ManySamples) (Err NoInterval) [] ≡ text "refused 19 0 0\n"
 unfolding decimal_to
 refused_prints = refl

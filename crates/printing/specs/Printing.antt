@@ -1,16 +1,14 @@
 -- The texts that are printed. Assumes nothing.
-use Rattle.std.specs.Prelude.{ℕ, ◌-◌, ◌^◌, Bool, true, false, cond, List, [], ◌++◌, get_or, eqb, ltb}
+use Rattle.std.specs.Prelude.{ℕ, ◌-◌, ◌^◌, Bool, true, false, cond, List, [], ◌++◌, get_or, eqb, ltb, Ok, Err}
 use Rattle.rules.specs.Bytes.{text}
 use Rattle.rules.specs.Program.{decimal, line}
 use Rattle.rules.specs.declared.Refusal.{Refusal}
-use Rattle.rules.specs.declared.Verdict.TheVariants as verdict
-use Rattle.rules.specs.declared.Outcome.{Outcome}
-use Rattle.rules.specs.declared.Outcome.TheVariants.{Done, Refused}
 use Rattle.time.specs.declared.Judgement.{Judgement}
 use Rattle.time.specs.declared.Judgement.TheVariants as judgement
 use Rattle.statements.specs.Words.{no_bound}
 use Rattle.statements.specs.declared.Fault.{Fault}
 use Rattle.statements.specs.declared.Fault.TheVariants.{Unknown, NoNumber, NoDots, NoTruth, More, Again, NotAsked}
+use Rattle.rules.specs.Answers.{Outcome}
 
 -- a number with a sign; a minute of a judgement, which is coded; a bound, in two's complement
 abbrev pub signed : Bool → ℕ → List ℕ
@@ -51,14 +49,14 @@ abbrev pub normal_text : List ℕ → List ℕ
 normal_text n = text "normal form:\n" ++ shifts_text n ++ durations_text n
 
 abbrev pub refused_text : Refusal → List ℕ
-refused_text why = line 0 (verdict.Refused why)
+refused_text why = line 0 (Err why)
 
 abbrev pub no_normal_text : Refusal → List ℕ
 no_normal_text why = text "no normal form: " ++ refused_text why
 
 abbrev pub outcome_text : Outcome → List ℕ → List ℕ
-outcome_text Done numbers = normal_text numbers
-outcome_text (Refused why) numbers = no_normal_text why
+outcome_text (Ok tt) numbers = normal_text numbers
+outcome_text (Err why) numbers = no_normal_text why
 
 -- the answer: a refusal of the question is all that is said
 abbrev pub satisfied_text : ℕ → ℕ → List ℕ

@@ -6,7 +6,7 @@ ghost use Rattle.std.specs.Prelude.{◌+◌, ◌≤◌, length};
 ghost use Rattle.output.specs.Output.{Put};
 ghost use Rattle.printing.specs.Printing as Printing;
 
-use rules::{Outcome, Refusal};
+use rules::{Refusal};
 use statements::{Fault, OPEN};
 use time::Judgement;
 
@@ -40,7 +40,7 @@ fn put_fault(fault: Fault, out: &mut [u8], end: usize) -> usize
 // Puts the answer there.
 pub fn put_answer(
     judgement: Judgement,
-    outcome: Outcome,
+    outcome: Result<(), Refusal>,
     numbers: &[u64; 7],
     out: &mut [u8],
 ) -> usize
@@ -77,13 +77,13 @@ fn put_satisfied(first: u64, last: u64, out: &mut [u8]) -> usize
 }
 
 // Puts what normalising came to behind the first `end` bytes of `out`.
-fn put_rest(outcome: Outcome, numbers: &[u64; 7], out: &mut [u8], end: usize) -> usize
+fn put_rest(outcome: Result<(), Refusal>, numbers: &[u64; 7], out: &mut [u8], end: usize) -> usize
     requires { end + 200 ≤ length out.old }
     ensures { Put 200 out.old end (Printing.outcome_text outcome numbers.now) out.new result }
 {
     match outcome {
-        Outcome::Done => put_normal(numbers, out, end),
-        Outcome::Refused(why) => put_no_normal(why, out, end),
+        Ok(()) => put_normal(numbers, out, end),
+        Err(why) => put_no_normal(why, out, end),
     }
 }
 

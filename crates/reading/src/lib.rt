@@ -33,7 +33,7 @@ pub fn entry_at(table: &[u8], p: usize) -> PlanEntry
 pub fn is_leaf(e: PlanEntry) -> bool
     ensures { result ≡ is_body Leaf (body_of e) }
 {
-    e.body_kind().is(Body::Leaf)
+    (e.body_kind() == Body::Leaf)
 }
 
 // The number of plan p's parent, in a table that has plan p.

@@ -12,15 +12,14 @@ use Rattle.rules.specs.Lists.{same}
 use Rattle.rules.specs.Bytes.{byte_at}
 use Rattle.rules.specs.Table.{version, plan_count}
 use Rattle.rules.specs.Record.{step_size, step_count}
-use Rattle.rules.specs.Answers.{rule_check, wrong_header, table_check, form_check, record_check, Judged, malformed}
+use Rattle.rules.specs.Answers.{rule_check, wrong_header, table_check, form_check, record_check, Judged, malformed, Done}
 use Rattle.rules.specs.declared.Refusal.{Refusal}
 use Rattle.rules.specs.declared.Refusal.TheVariants.{RecordHeader, RecordLength}
-use Rattle.rules.specs.declared.Outcome.TheVariants.{Done, Refused}
-use Rattle.rules.specs.declared.Verdict.TheVariants as verdict
 use Rattle.rules.proofs.Outcomes.{first_done, then_done, if_done, pass, stop, pass_last, stop_last, then_next, then_stops}
 use Rattle.rules.proofs.Tree.{or_left, or_right}
 use Rattle.parts.specs.OneStep.{Lies}
 use Rattle.parts.proofs.Parts.{room}
+use Rattle.std.specs.Prelude.{Err}
 
 -- check 13, as the code finds it
 pub short_header : (t r : List ℕ) → length r < 8 → true ≡ wrong_header t r
@@ -37,12 +36,12 @@ pub long_enough : (t r : List ℕ) → wrong_header t r ≡ false → 8 ≤ leng
 long_enough t r e = ltb-false (length r) 8 (or_left _ _ (or_left _ _ (or_left _ _ (or_left _ _ e))))
 
 pub rule_refused :
-    (rule : ℕ) (t r : List ℕ) (why : Refusal) → rule_check rule ≡ Refused why → Judged rule t r (verdict.Refused why)
+    (rule : ℕ) (t r : List ℕ) (why : Refusal) → rule_check rule ≡ Err why → Judged rule t r (Err why)
 unfolding record_check
 rule_refused rule t r why e = malformed (then_stops (rule_check rule) _ why e)
 
 pub table_refused :
-    (rule : ℕ) (t r : List ℕ) (why : Refusal) → rule_check rule ≡ Done → table_check t ≡ Refused why → Judged rule t r (verdict.Refused why)
+    (rule : ℕ) (t r : List ℕ) (why : Refusal) → rule_check rule ≡ Done → table_check t ≡ Err why → Judged rule t r (Err why)
 unfolding record_check
 table_refused rule t r why ruled e = malformed (then_next (rule_check rule) _ ruled ∙ then_stops (table_check t) _ why e)
 
@@ -51,7 +50,7 @@ module _ (rule : ℕ) (t r : List ℕ) (ruled : rule_check rule ≡ Done) (done 
   unfolding record_check
   up_to_form = then_next (rule_check rule) _ ruled ∙ then_next (table_check t) _ done
 
-  pub header_refused : wrong_header t r ≡ true → Judged rule t r (verdict.Refused RecordHeader)
+  pub header_refused : wrong_header t r ≡ true → Judged rule t r (Err RecordHeader)
   unfolding form_check
   header_refused e = malformed (up_to_form ∙ stop _ _ _ e)
 
@@ -59,7 +58,7 @@ module _ (rule : ℕ) (t r : List ℕ) (ruled : rule_check rule ≡ Done) (done 
   module _ (n : ℕ) (whole : n ≡ plan_count t) (header : wrong_header t r ≡ false) where
     pub length_refused :
         (not (eqb ((length r - 8) % (5 * n)) 0) || ltb 65535 ((length r - 8) / (5 * n))) ≡ true
-        → Judged rule t r (verdict.Refused RecordLength)
+        → Judged rule t r (Err RecordLength)
     unfolding form_check
     length_refused e = malformed (up_to_form ∙ pass _ _ _ header ∙ stop_last _ _ (rw whole at e))
 

@@ -16,10 +16,8 @@ use Rattle.rules.specs.States.{code}
 use Rattle.rules.specs.Table.{plan_count}
 use Rattle.rules.specs.Step.{step_under}
 use Rattle.rules.specs.Record.{step_count, words_of, states_of, states_before, ExplainedFirst}
-use Rattle.rules.specs.Answers.{bad_record_word, table_check, record_check, words_check, StepPasses, Judged, bad_words, unexplained, accepted}
+use Rattle.rules.specs.Answers.{bad_record_word, table_check, record_check, words_check, StepPasses, Judged, bad_words, unexplained, accepted, Done}
 use Rattle.rules.specs.declared.Refusal.TheVariants.{Word, Unexplained}
-use Rattle.rules.specs.declared.Outcome.TheVariants.{Done}
-use Rattle.rules.specs.declared.Verdict.TheVariants as verdict
 use Rattle.rules.specs.declared.PlanState.TheVariants.{Inactive}
 use Rattle.rules.proofs.Outcomes.{pass_at_last, stop_at_last}
 use Rattle.rules.proofs.Tree.{passes, tree}
@@ -37,6 +35,7 @@ use Rattle.demands.proofs.PlanByPlan.{unexplained as no_picks}
 use Rattle.parts.specs.OneStep.{Lies, Witnessed}
 use Rattle.record.specs.Sound.{Sound}
 use Rattle.record.proofs.Form.{few, lies}
+use Rattle.std.specs.Prelude.{Ok, Err}
 
 -- the first k bytes of a buffer of zeros
 pub idle_part : (k m a : ℕ) → k ≤ m → take k (replicate m a) ≡ replicate k a
@@ -152,7 +151,7 @@ module _ {rule : ℕ} {t r ranks names : List ℕ} {n steps i : ℕ} (here : Her
     lowest_word : Lowest (bad_record_word t (words_of t r i)) n p
     lowest_word = rw is_words at lowest
 
-    pub stops_at_word : p < n → Judged rule t r (verdict.Refused (Word (i + 1) p))
+    pub stops_at_word : p < n → Judged rule t r (Err (Word (i + 1) p))
     unfolding words_check
     stops_at_word l =
         rw (add-one i)
@@ -194,7 +193,7 @@ module _ {rule : ℕ} {t r ranks names : List ℕ} {n steps i : ℕ} (here : Her
       pub stops_at_plan :
           (p : ℕ) → p < n → ((k : ℕ) → k < p → byte_at new k ≡ byte_at shown k) → (byte_at new p ≡ byte_at shown p → ⊥)
           → words_check t r i ≡ Done
-          → Judged rule t r (verdict.Refused (Unexplained (i + 1) p))
+          → Judged rule t r (Err (Unexplained (i + 1) p))
       stops_at_plan p l same differs words_done =
           rw (add-one i)
           (unexplained i p good inner here.before words_done (omega (arith, here.whole))
@@ -212,5 +211,5 @@ module _ {rule : ℕ} {t r ranks names : List ℕ} {n steps i : ℕ} (here : Her
 
 pub all_steps :
     (rule : ℕ) (t r : List ℕ) (steps i : ℕ) → record_check rule t r ≡ Done → steps ≡ step_count t r → steps ≤ i
-    → ((j : ℕ) → j < i → StepPasses rule t r j) → Judged rule t r (verdict.Accepted steps)
+    → ((j : ℕ) → j < i → StepPasses rule t r j) → Judged rule t r (Ok steps)
 all_steps rule t r steps i done count end before = rw count (accepted done (λ j l. before j (omega arith)))

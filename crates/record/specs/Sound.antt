@@ -1,7 +1,6 @@
 -- What is known before the steps of a record are gone through. Assumes nothing.
 use Rattle.std.specs.Prelude.{ℕ, ◌≡◌, List}
-use Rattle.rules.specs.Answers.{record_check}
-use Rattle.rules.specs.declared.Outcome.TheVariants.{Done}
+use Rattle.rules.specs.Answers.{record_check, Done}
 use Rattle.table.specs.Facts.{Prepared}
 
 -- a rule, a table that passes, its facts, and a record of good form

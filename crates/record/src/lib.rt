@@ -14,23 +14,23 @@ use children::{resurvey, survey};
 use parts::{find_picks, find_unused, lowest_wrong_word, states_before, states_of, words_of};
 use pass::advance;
 use reading::u16_at;
-use rules::{Outcome, PlanState, Refusal, Verdict, is_rule};
+use rules::{PlanState, Refusal, is_rule};
 use table::{has_mark, read_table};
 
 // Whether a record can come from the rules under a table, by the rule named: accepted with its number of steps, or refused at the first
 // place.
-pub fn check(rule: u32, table: &[u8], record: &[u8]) -> Verdict
+pub fn check(rule: u32, table: &[u8], record: &[u8]) -> Result<u16, Refusal>
     ensures { Judged rule table.now «record».now result }
 {
     if !is_rule(rule) {
-        return Verdict::Refused(Refusal::RuleNumber);
+        return Err(Refusal::RuleNumber);
     }
     let mut ranks = [0u8; 256];
     let mut counts = [0u8; 256];
     let mut names = [0u64; 512];
     match read_table(table, &mut ranks, &mut counts, &mut names) {
-        Outcome::Refused(why) => Verdict::Refused(why),
-        Outcome::Done => check_record(rule, table, &ranks, &names, record),
+        Err(why) => Err(why),
+        Ok(()) => check_record(rule, table, &ranks, &names, record),
     }
 }
 
@@ -44,7 +44,7 @@ fn check_steps(
     names: &[u64],
     record: &[u8],
     steps: usize,
-) -> Verdict
+) -> Result<u16, Refusal>
     requires sound { Sound rule table.now «record».now ranks.now names.now }
     requires sizes { (n ≡ plan_count table.now) × (steps ≡ step_count table.now «record».now) }
     ensures { Judged rule table.now «record».now result }
@@ -82,18 +82,18 @@ fn check_steps(
         if wrong < n {
             let step = (i + 1) as u16;
             let plan = wrong as u16;
-            return Verdict::Refused(Refusal::Word { step, plan });
+            return Err(Refusal::Word { step, plan });
         }
         resurvey(table, n, ranks, old, shown, &mut sets);
         i += 1;
     }
     if bad_step == 0 {
         let count = steps as u16;
-        return Verdict::Accepted(count);
+        return Ok(count);
     }
     let step = bad_step as u16;
     let plan = bad_plan as u16;
-    Verdict::Refused(Refusal::Unexplained { step, plan })
+    Err(Refusal::Unexplained { step, plan })
 }
 
 // Check 13, for a table of n plans.
@@ -109,20 +109,20 @@ fn wrong_header(record: &[u8], n: usize) -> bool
 }
 
 // Checks 13 and 14 of a record, and then its steps, where rule number and table have passed.
-fn check_record(rule: u32, table: &[u8], ranks: &[u8], names: &[u64], record: &[u8]) -> Verdict
+fn check_record(rule: u32, table: &[u8], ranks: &[u8], names: &[u64], record: &[u8]) -> Result<u16, Refusal>
     requires ruled { rule_check rule ≡ Done }
     requires table { Prepared table.now ranks.now names.now }
     ensures { Judged rule table.now «record».now result }
 {
     let n = u16_at(table, 5) as usize;
     if wrong_header(record, n) {
-        return Verdict::Refused(Refusal::RecordHeader);
+        return Err(Refusal::RecordHeader);
     }
     let size = 5 * n;
     let body = record.len() - 8;
     let steps = body / size;
     if (body % size != 0) | (65535 < steps) {
-        return Verdict::Refused(Refusal::RecordLength);
+        return Err(Refusal::RecordLength);
     }
     check_steps(rule, table, n, ranks, names, record, steps)
 }

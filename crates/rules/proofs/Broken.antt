@@ -17,14 +17,12 @@ use Rattle.rules.specs.declared.PlanState.TheVariants.{Considered, Aborted}
 use Rattle.rules.specs.Table.{is_or_is_above, children_before, children}
 use Rattle.rules.specs.Record.{Explained}
 use Rattle.rules.specs.Demands.{SubPlan, Retried, AtMostOne, OnlyWhileParent, EndingsKept}
-use Rattle.rules.specs.Answers.{◌and_then◌, refuse_if, rule_check, call_check, wrong_header, form_check, record_check, Judged, malformed}
+use Rattle.rules.specs.Answers.{◌and_then◌, refuse_if, rule_check, call_check, wrong_header, form_check, record_check, Judged, malformed, Verdict, Done}
 use Rattle.rules.specs.Program.{table_of, record_of, Answered, too_long, judged}
 use Rattle.rules.specs.Cases.{T1Of, states}
 use Rattle.rules.specs.declared.Refusal.TheVariants.{RecordLength, InputLong, RuleNumber}
-use Rattle.rules.specs.declared.Outcome.TheVariants.{Done, Refused}
-use Rattle.rules.specs.declared.Verdict.{Verdict}
-use Rattle.rules.specs.declared.Verdict.TheVariants as verdict
 use Rattle.rules.proofs.Outcomes.{stop_last, then_stops}
+use Rattle.std.specs.Prelude.{Err}
 
 -- a root with two leaves
 abbrev pair : ℕ → List ℕ
@@ -130,15 +128,15 @@ no_pick_to_make rule s w shown k e wild = rw wild at (e.allowed 0 (omega arith))
 
 -- Numbers other than 1 and 2 are no rule: each call is refused for that, whatever else it is handed.
 module _ (rule : ℕ) (not_1 : rule ≡ 1 → ⊥) (not_2 : rule ≡ 2 → ⊥) where
-  no_rule : rule_check rule ≡ Refused RuleNumber
+  no_rule : rule_check rule ≡ Err RuleNumber
   unfolding rule_check
   no_rule = stop_last (not (eqb rule 1 || eqb rule 2)) RuleNumber (rw (ne_eqb rule 1 not_1, ne_eqb rule 2 not_2) refl)
 
-  pub no_call_without_a_rule : (t s w c : List ℕ) → call_check rule t s w c ≡ Refused RuleNumber
+  pub no_call_without_a_rule : (t s w c : List ℕ) → call_check rule t s w c ≡ Err RuleNumber
   unfolding call_check
   no_call_without_a_rule t s w c = then_stops (rule_check rule) _ RuleNumber no_rule
 
-  pub no_check_without_a_rule : (t r : List ℕ) → Judged rule t r (verdict.Refused RuleNumber)
+  pub no_check_without_a_rule : (t r : List ℕ) → Judged rule t r (Err RuleNumber)
   unfolding record_check
   no_check_without_a_rule t r = malformed (then_stops (rule_check rule) _ RuleNumber no_rule)
 
@@ -152,7 +150,7 @@ module _ (r : List ℕ) (good : wrong_header alone r ≡ false) where
   unfolding form_check ◌and_then◌ refuse_if
   most_steps size = rw (good, size) refl
 
-  pub too_many_steps : length r ≡ 8 + 5 * 65536 → form_check alone r ≡ Refused RecordLength
+  pub too_many_steps : length r ≡ 8 + 5 * 65536 → form_check alone r ≡ Err RecordLength
   unfolding form_check ◌and_then◌ refuse_if
   too_many_steps size = rw (good, size) refl
 
@@ -161,5 +159,5 @@ module _ (input : List ℕ) where
   pub longest_input : {v : Verdict} → length input ≡ 65536 → Judged 2 (table_of input) (record_of input) v → Answered input v
   longest_input size verdict = judged (omega arith) verdict
 
-  pub input_too_long : length input ≡ 65537 → Answered input (verdict.Refused InputLong)
+  pub input_too_long : length input ≡ 65537 → Answered input (Err InputLong)
   input_too_long size = too_long (omega arith)

@@ -10,23 +10,11 @@ use lib.Dec.{eqb, leb, ltb}
 use borrow.Author.Tests.{eqb-true, eqb-false, leb-false, ltb-false, not-false}
 use Rattle.rules.specs.Table.{plan_count, parent, rank, is_or_is_above}
 use Rattle.rules.specs.WaitFor.{first_version, table_size}
-use Rattle.rules.specs.Answers.{
-  unrooted,
-  bad_parent,
-  undefined_byte,
-  unfit,
-  formulas_check,
-  bad_wait,
-  header_check,
-  table_check,
-  table_verdict,
-}
+use Rattle.rules.specs.Answers.{unrooted, bad_parent, undefined_byte, unfit, formulas_check, bad_wait, header_check, table_check, table_verdict, Outcome, Done}
 use Rattle.rules.specs.declared.Refusal.{Refusal}
-use Rattle.rules.specs.declared.Outcome.{Outcome}
-use Rattle.rules.specs.declared.Outcome.TheVariants.{Done, Refused}
-use Rattle.rules.specs.declared.Verdict.TheVariants as verdict
 use Rattle.rules.proofs.Least.{nowhere}
 use Rattle.rules.proofs.Outcomes.{first_done, then_done, if_done, at_done}
+use Rattle.std.specs.Prelude.{Ok, Err}
 
 pub or_left : (a b : Bool) → (a || b) ≡ false → a ≡ false
 or_left true b e = e
@@ -47,34 +35,34 @@ pub record Passes (t : List ℕ) : Type 0 where
   pub waits : (p : ℕ) → p < plan_count t → bad_wait t p ≡ false
 
 -- what a table answers
-pub accepted : (t : List ℕ) → table_check t ≡ Done → table_verdict t ≡ verdict.Accepted (plan_count t)
+pub accepted : (t : List ℕ) → table_check t ≡ Done → table_verdict t ≡ Ok (plan_count t)
 unfolding table_verdict
 accepted t e = rw (e, table_verdict)
 
-pub refused : (t : List ℕ) (why : Refusal) → table_check t ≡ Refused why → table_verdict t ≡ verdict.Refused why
+pub refused : (t : List ℕ) (why : Refusal) → table_check t ≡ Err why → table_verdict t ≡ Err why
 unfolding table_verdict
 refused t why e = rw (e, table_verdict)
 
 -- and what an answer tells
-pub was_done : (t : List ℕ) (n : ℕ) → table_verdict t ≡ verdict.Accepted n → (table_check t ≡ Done) × (n ≡ plan_count t)
+pub was_done : (t : List ℕ) (n : ℕ) → table_verdict t ≡ Ok n → (table_check t ≡ Done) × (n ≡ plan_count t)
 was_done t n e = go (table_check t) refl
   where
     go : (o : Outcome) → table_check t ≡ o → (table_check t ≡ Done) × (n ≡ plan_count t)
-    go Done d = let same = sym e ∙ accepted t d in (d, cc)
-    go (Refused why) d =
+    go (Ok tt) d = let same = sym e ∙ accepted t d in (d, cc)
+    go (Err why) d =
         let other = sym e ∙ refused t why d in
         let z : ◌≡◌ {A = ℕ} 0 1 = cc in
         absurd (omega arith)
 
-pub was_refused : (t : List ℕ) (why : Refusal) → table_verdict t ≡ verdict.Refused why → table_check t ≡ Refused why
+pub was_refused : (t : List ℕ) (why : Refusal) → table_verdict t ≡ Err why → table_check t ≡ Err why
 was_refused t why e = go (table_check t) refl
   where
-    go : (o : Outcome) → table_check t ≡ o → table_check t ≡ Refused why
-    go Done d =
+    go : (o : Outcome) → table_check t ≡ o → table_check t ≡ Err why
+    go (Ok tt) d =
         let other = sym e ∙ accepted t d in
         let z : ◌≡◌ {A = ℕ} 0 1 = cc in
         absurd (omega arith)
-    go (Refused which) d = let same = sym e ∙ refused t which d in d ∙ cc
+    go (Err which) d = let same = sym e ∙ refused t which d in d ∙ cc
 
 -- what check 6 gives: each plan but the first has an earlier parent, and its rank is below 64
 pub record Tree (t : List ℕ) : Type 0 where

@@ -2,15 +2,15 @@
 -- reads it: `Post κs a z e`, of the lifetimes, the arguments, the answer and the parameters at exit, arguments and parameters in the
 -- order of the declaration. So a contract that loses its line is found here. Assumes nothing.
 use mathlib.Core.Path.{◌≡◌, sym, ◌∙◌}
-use Rattle.rules.proofs.PlanState.to_byte.Reads as to_byte
-use Rattle.rules.proofs.PlanState.from_byte.Reads as from_byte
-use Rattle.rules.proofs.PlanState.is.Reads as is_it
+use Rattle.rules.proofs.U8FromPlanState.from.Reads as state_code
+use Rattle.rules.proofs.PlanStateFromU8.from.Reads as state_of_code
+use Rattle.rules.proofs.PlanStatePartialEq.eq.Reads as same_state
 use Rattle.rules.proofs.PlanState.in_selection.Reads as in_selection
 use Rattle.rules.proofs.PlanState.in_execution.Reads as in_execution
 use Rattle.rules.proofs.PlanState.is_ended.Reads as is_ended
 use Rattle.rules.proofs.PlanState.has_run.Reads as has_run
-use Rattle.rules.proofs.Cause.to_byte.Reads as cause_to_byte
-use Rattle.rules.proofs.Body.is.Reads as is_body
+use Rattle.rules.proofs.U8FromCause.from.Reads as cause_code
+use Rattle.rules.proofs.BodyPartialEq.eq.Reads as same_body
 use Rattle.rules.proofs.Body.is_of_two.Reads as is_of_two
 use Rattle.rules.proofs.Condition.bit.Reads as bit
 use Rattle.rules.proofs.is_set.Reads as is_set
@@ -42,13 +42,13 @@ by_equation = record { once = λ κs a z z' e e' h h'. one_answer h h' }
 
 -- the functions of a plan's state, and that of a cause
 pub states_once :
-    OneAnswer to_byte.Post × OneAnswer from_byte.Post × OneAnswer is_it.Post × OneAnswer in_selection.Post
-    × OneAnswer in_execution.Post × OneAnswer is_ended.Post × OneAnswer has_run.Post × OneAnswer cause_to_byte.Post
+    OneAnswer state_code.Post × OneAnswer state_of_code.Post × OneAnswer same_state.Post × OneAnswer in_selection.Post
+    × OneAnswer in_execution.Post × OneAnswer is_ended.Post × OneAnswer has_run.Post × OneAnswer cause_code.Post
 states_once = (by_equation, by_equation, by_equation, by_equation, by_equation, by_equation, by_equation, by_equation)
 
 -- those of a body, a condition, a bit and an input word
 pub bodies_once :
-    OneAnswer is_body.Post × OneAnswer is_of_two.Post × OneAnswer bit.Post × OneAnswer is_set.Post
+    OneAnswer same_body.Post × OneAnswer is_of_two.Post × OneAnswer bit.Post × OneAnswer is_set.Post
     × OneAnswer pick_of.Post
 bodies_once = (
   by_equation,

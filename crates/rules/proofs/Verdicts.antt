@@ -6,18 +6,7 @@ use mathlib.Core.Path.{◌≡◌, ◌∙◌}
 use mathlib.Core.List.{List}
 use Rattle.rules.specs.Table.{plan_count}
 use Rattle.rules.specs.Record.{Choosing, step_count, ExplainedFirstBy}
-use Rattle.rules.specs.Answers.{
-  record_check,
-  words_check,
-  StepPassesBy,
-  JudgedBy,
-  malformed,
-  bad_words,
-  unexplained,
-  accepted,
-}
-use Rattle.rules.specs.declared.Outcome.TheVariants.{Done}
-use Rattle.rules.specs.declared.Verdict.{Verdict}
+use Rattle.rules.specs.Answers.{record_check, words_check, StepPassesBy, JudgedBy, malformed, bad_words, unexplained, accepted, Verdict, Done}
 
 -- what some picks explain of the first plans of a step, under the one table and way, some explain under the other
 abbrev pub Explains : ℕ → List ℕ → Choosing → List ℕ → Choosing → List ℕ → Type 0

@@ -2,11 +2,11 @@
 -- and (vi) among them, and, of documents 01 and 02 (i), (ii), (v), (ix), the test behind each, their order in each call, and what each call
 -- answers and leaves. Assumes nothing.
 use Prim.Native.Nat.{ℕ, zero, suc, ◌*◌, ◌-◌, ◌%◌, ◌^◌, ◌<◌}
-use Rattle.std.specs.Prelude.{Bool, true, false, ◌&&◌, ◌||◌, ◌≡◌, List, map, length, take}
+use Rattle.std.specs.Prelude.{Bool, true, false, ◌&&◌, ◌||◌, ◌≡◌, List, map, length, take, Option, Result, Ok, Err, Some, None}
 use Rattle.std.proofs.Math.Bool.{cond, not}
 use Rattle.std.specs.Bool.{beq}
 use Rattle.std.proofs.Math.Dec.{eqb, leb, ltb}
-use Rattle.rules.specs.Lists.{some, some_below, count, same, no_plan, least, Found, Nowhere, At}
+use Rattle.rules.specs.Lists.{some, some_below, count, same, no_plan, least}
 use Rattle.rules.specs.Bytes.{byte_at, is_set, text}
 use Rattle.rules.specs.Table.{
   version,
@@ -64,12 +64,6 @@ use Rattle.rules.specs.declared.Refusal.TheVariants.{
   OutputShort,
   NormalRange,
 }
-use Rattle.rules.specs.declared.Outcome.{Outcome}
-use Rattle.rules.specs.declared.Outcome.TheVariants.{Done, Refused}
-use Rattle.rules.specs.declared.Verdict.{Verdict}
-use Rattle.rules.specs.declared.Verdict.TheVariants as verdict
-use Rattle.rules.specs.declared.Rest.{Rest}
-use Rattle.rules.specs.declared.Rest.TheVariants as rest
 
 -- number, step and plan; unnamed places are 0
 abbrev pub placed : ℕ → ℕ → ℕ → Place
@@ -102,24 +96,43 @@ place NodeKind = placed 23 0 0
 place OutputShort = placed 24 0 0
 place NormalRange = placed 26 0 0
 
+-- what a check or a step answers: done, or why it is refused
+abbrev pub Outcome : Type 0
+Outcome = Result (Unit {0}) Refusal
+
+abbrev pub Done : Outcome
+Done = Ok tt
+
+-- what a whole table answers, with its plans, a whole record, with its steps, and a table that is moved, with the bytes written
+abbrev pub Verdict : Type 0
+Verdict = Result ℕ Refusal
+
+-- what a run to rest answers: the steps that it took, or no number where it still moves
+abbrev pub Rest : Type 0
+Rest = Result (Option ℕ) Refusal
+
+-- what a question for the most steps to rest answers: so many, or no number where no figure is known
+abbrev pub Figure : Type 0
+Figure = Result (Option ℕ) Refusal
+
 -- one check, and if it finds nothing the next
 infixr 10 ◌and_then◌
 unfoldable pub ◌and_then◌ : Outcome → Outcome → Outcome
-Done and_then next = next
-Refused why and_then next = Refused why
+Ok tt and_then next = next
+Err why and_then next = Err why
 
 abbrev pub is_done : Outcome → Bool
-is_done Done = true
-is_done (Refused why) = false
+is_done (Ok tt) = true
+is_done (Err why) = false
 
 -- refused if a test says so
 unfoldable pub refuse_if : Bool → Refusal → Outcome
-refuse_if b why = cond b (Refused why) Done
+refuse_if b why = cond b (Err why) Done
 
 -- refused at the plan, or at the node, that was found
-unfoldable pub refuse_at : (ℕ → Refusal) → Found → Outcome
-refuse_at why Nowhere = Done
-refuse_at why (At p) = Refused (why p)
+unfoldable pub refuse_at : (ℕ → Refusal) → Option ℕ → Outcome
+refuse_at why None = Done
+refuse_at why (Some p) = Err (why p)
 
 -- rules are 1, document 01's own, and 2
 abbrev pub is_rule : ℕ → Bool
@@ -270,7 +283,7 @@ module _ (t : List ℕ) where
   -- what reading a table answers: a good one its number of plans
   unfoldable pub table_verdict : Verdict
   unfolding table_check
-  table_verdict = elim table_check [ Done ↦ verdict.Accepted (plan_count t) | Refused why ↦ verdict.Refused why ]
+  table_verdict = elim table_check [ Ok tt ↦ Ok (plan_count t) | Err why ↦ Err why ]
 
   -- 12
   unfoldable pub bad_word : List ℕ → ℕ → Bool
@@ -299,9 +312,8 @@ module _ (t : List ℕ) where
       and_then call_words_check w
 
 -- what the run answers
-abbrev pub rest_answer : Found → Rest
-rest_answer (At k) = rest.Rested k
-rest_answer Nowhere = rest.Moving
+abbrev pub rest_answer : Option ℕ → Rest
+rest_answer found = Ok found
 
 -- A call of the step or the run by a rule: 17, then the table's, then 10 to 12. It is lent states s, words w and a buffer c for causes.
 module _ (rule : ℕ) (t s w c : List ℕ) where
@@ -314,23 +326,23 @@ module _ (rule : ℕ) (t s w c : List ℕ) where
   step_answer = call_check
 
   abbrev pub step_states : List ℕ
-  step_states = elim call_check [ Done ↦ step rule t s w | Refused why ↦ s ]
+  step_states = elim call_check [ Ok tt ↦ step rule t s w | Err why ↦ s ]
 
   abbrev pub step_causes : List ℕ
-  step_causes = elim call_check [ Done ↦ causes rule t s w | Refused why ↦ c ]
+  step_causes = elim call_check [ Ok tt ↦ causes rule t s w | Err why ↦ c ]
 
   -- what the run answers, and the states and causes that it leaves
   unfoldable pub run_answer : ℕ → Rest
   unfolding call_check least_rest
-  run_answer budget = elim call_check [ Done ↦ rest_answer (least_rest rule t s w budget) | Refused why ↦ rest.Refused why ]
+  run_answer budget = elim call_check [ Ok tt ↦ rest_answer (least_rest rule t s w budget) | Err why ↦ Err why ]
 
   unfoldable pub run_states : ℕ → List ℕ
   unfolding call_check least_rest after
-  run_states budget = elim call_check [ Done ↦ after rule t s w (steps_taken rule t s w budget) | Refused why ↦ s ]
+  run_states budget = elim call_check [ Ok tt ↦ after rule t s w (steps_taken rule t s w budget) | Err why ↦ s ]
 
   unfoldable pub run_causes : ℕ → List ℕ
   unfolding call_check least_rest last_causes
-  run_causes budget = elim call_check [ Done ↦ last_causes rule t s w (steps_taken rule t s w budget) | Refused why ↦ c ]
+  run_causes budget = elim call_check [ Ok tt ↦ last_causes rule t s w (steps_taken rule t s w budget) | Err why ↦ c ]
 
 -- The checker's own checks.
 module _ (t r : List ℕ) where
@@ -369,20 +381,20 @@ module _ (choosing : Choosing) (rule : ℕ) (t r : List ℕ) where
 
   -- the verdicts that are permitted
   pub data JudgedBy : Verdict → Type 0 where
-    malformed : {why : Refusal} → record_check rule t r ≡ Refused why → JudgedBy (verdict.Refused why)
+    malformed : {why : Refusal} → record_check rule t r ≡ Err why → JudgedBy (Err why)
     bad_words :
         {why : Refusal} (i : ℕ) → record_check rule t r ≡ Done → i < step_count t r → ((j : ℕ) → j < i → StepPassesBy j)
-        → words_check t r i ≡ Refused why
-        → JudgedBy (verdict.Refused why)
+        → words_check t r i ≡ Err why
+        → JudgedBy (Err why)
     -- 15: p is the lowest plan such that no picks explain plans 0 to p
     unexplained :
         (i p : ℕ) → record_check rule t r ≡ Done → i < step_count t r → ((j : ℕ) → j < i → StepPassesBy j) → words_check t r i ≡ Done
         → p < plan_count t → ((j : ℕ) → j < p → ExplainedFirstBy choosing rule t r i (suc j))
         → (ExplainedFirstBy choosing rule t r i (suc p) → ⊥)
-        → JudgedBy (verdict.Refused (Unexplained (suc i) p))
+        → JudgedBy (Err (Unexplained (suc i) p))
     accepted :
         record_check rule t r ≡ Done → ((i : ℕ) → i < step_count t r → StepPassesBy i)
-        → JudgedBy (verdict.Accepted (step_count t r))
+        → JudgedBy (Ok (step_count t r))
 
 abbrev pub StepPasses : ℕ → List ℕ → List ℕ → ℕ → Type 0
 StepPasses = StepPassesBy chosen

@@ -1,7 +1,7 @@
 -- Document 01, 'Small protocols to try': the lines marked P, in their order, then some that are not, then rows of our own, with those of
 -- document 02 (i) to (iii), (v), (vii) and (ix) among them; one table, and one theorem that all its rows hold. A row of a step or a run
 -- goes through the whole call, checks 17, 1 to 12 and 22 included, by each rule that its first column names. Assumes nothing.
-use Rattle.std.specs.Prelude.{ℕ, zero, suc, ◌+◌, ◌-◌, ◌*◌, ◌/◌, ◌%◌, ◌^◌, Bool, true, false, cond, ◌&&◌, ◌≡◌, refl, List, [], ◌∷◌, ◌++◌, map, take, drop, replicate, eqb}
+use Rattle.std.specs.Prelude.{ℕ, zero, suc, ◌+◌, ◌-◌, ◌*◌, ◌/◌, ◌%◌, ◌^◌, Bool, true, false, cond, ◌&&◌, ◌≡◌, refl, List, [], ◌∷◌, ◌++◌, map, take, drop, replicate, eqb, Ok, Err, Some, None}
 use Prim.Native.String.{String}
 use Rattle.rules.specs.Lists.{all, same, least_from, some_below, map_below, highest}
 use Rattle.rules.specs.Bytes.{is_set, text}
@@ -31,42 +31,7 @@ use Rattle.rules.specs.Step.{
 }
 use Rattle.rules.specs.HandedIn.{bad_state}
 use Rattle.rules.specs.Rest.{after, least_rest, last_causes}
-use Rattle.rules.specs.Answers.{
-  place,
-  is_done,
-  ◌and_then◌,
-  refuse_if,
-  refuse_at,
-  bad_parent,
-  undefined_entry,
-  unfit_entry,
-  undefined_byte,
-  unfit,
-  too_many,
-  stray_first,
-  bad_bytes,
-  bad_node,
-  bad_rank,
-  formulas_check,
-  asks_too_many,
-  bad_wait,
-  header_check,
-  rule_check,
-  table_check,
-  table_verdict,
-  bad_word,
-  bad_record_word,
-  call_check,
-  step_answer,
-  step_states,
-  step_causes,
-  run_answer,
-  run_states,
-  run_causes,
-  form_check,
-  words_check,
-  record_check,
-}
+use Rattle.rules.specs.Answers.{place, is_done, ◌and_then◌, refuse_if, refuse_at, bad_parent, undefined_entry, unfit_entry, undefined_byte, unfit, too_many, stray_first, bad_bytes, bad_node, bad_rank, formulas_check, asks_too_many, bad_wait, header_check, rule_check, table_check, table_verdict, bad_word, bad_record_word, call_check, step_answer, step_states, step_causes, run_answer, run_states, run_causes, form_check, words_check, record_check, Outcome, Verdict, Rest}
 use Rattle.rules.specs.SubTree.{last_descendant, sub_tree}
 use Rattle.rules.specs.Program.{decimal_to, line, table_length}
 use Rattle.rules.specs.declared.Condition.TheVariants.{Filter, Setup, Suspend, Reactivate, Abort, Complete}
@@ -74,12 +39,6 @@ use Rattle.rules.specs.declared.Pattern.{Pattern}
 use Rattle.rules.specs.declared.Pattern.TheVariants.{Of, If}
 use Rattle.rules.specs.declared.Refusal.{Refusal}
 use Rattle.rules.specs.declared.Refusal.TheVariants.{Unexplained}
-use Rattle.rules.specs.declared.Outcome.{Outcome}
-use Rattle.rules.specs.declared.Outcome.TheVariants.{Done, Refused}
-use Rattle.rules.specs.declared.Verdict.{Verdict}
-use Rattle.rules.specs.declared.Verdict.TheVariants as verdict
-use Rattle.rules.specs.declared.Rest.{Rest}
-use Rattle.rules.specs.declared.Rest.TheVariants as rest
 
 -- T1, with the root's body, flags, conditions and m, and plan 1's conditions, as given
 unfoldable pub T1Of : ℕ → ℕ → ℕ → ℕ → ℕ → List ℕ
@@ -274,37 +233,37 @@ pub data Row : Type 0 where
   row_puts : Pattern → Bool → Bool → ℕ → ℕ → Row
 
 is_rested : ℕ → Rest → Bool
-is_rested k (rest.Rested j) = eqb j k
-is_rested k rest.Moving = false
-is_rested k (rest.Refused why) = false
+is_rested k (Ok (Some j)) = eqb j k
+is_rested k (Ok None) = false
+is_rested k (Err why) = false
 
 is_moving : Rest → Bool
-is_moving (rest.Rested j) = false
-is_moving rest.Moving = true
-is_moving (rest.Refused why) = false
+is_moving (Ok (Some j)) = false
+is_moving (Ok None) = true
+is_moving (Err why) = false
 
 is_accepted : ℕ → Verdict → Bool
-is_accepted n (verdict.Accepted k) = eqb k n
-is_accepted n (verdict.Refused why) = false
+is_accepted n (Ok k) = eqb k n
+is_accepted n (Err why) = false
 
 is_placed : ℕ → ℕ → Refusal → Bool
 is_placed number plan why = eqb (place why).number number && eqb (place why).step 0 && eqb (place why).plan plan
 
 is_refused : ℕ → ℕ → Outcome → Bool
 unfolding is_placed
-is_refused number plan Done = false
-is_refused number plan (Refused why) = is_placed number plan why
+is_refused number plan (Ok tt) = false
+is_refused number plan (Err why) = is_placed number plan why
 
 is_refused_run : ℕ → ℕ → Rest → Bool
 unfolding is_placed
-is_refused_run number plan (rest.Rested k) = false
-is_refused_run number plan rest.Moving = false
-is_refused_run number plan (rest.Refused why) = is_placed number plan why
+is_refused_run number plan (Ok (Some k)) = false
+is_refused_run number plan (Ok None) = false
+is_refused_run number plan (Err why) = is_placed number plan why
 
 -- an outcome is told as number, step and plan, or 0
 is_told : ℕ → ℕ → ℕ → Outcome → Bool
-is_told number step plan Done = eqb number 0
-is_told number step plan (Refused why) = eqb (place why).number number && eqb (place why).step step && eqb (place why).plan plan
+is_told number step plan (Ok tt) = eqb number 0
+is_told number step plan (Err why) = eqb (place why).number number && eqb (place why).step step && eqb (place why).plan plan
 
 holds_in : Row → Bool
 unfolding states many_states bytes words idle blank is_rested is_moving is_accepted is_refused is_refused_run is_told
@@ -414,8 +373,8 @@ unmarked =
     ∷ row_refuses both (star 65) 000 idle 6 65
     ∷ row_accepts (star 64) 65
     -- the words of two lines; that they are the right ones is the checker's matter
-    ∷ row_prints 3 (verdict.Accepted 8) "accepted 3 8\n"
-    ∷ row_prints 3 (verdict.Refused (Unexplained 8 2)) "refused 15 8 2\n"
+    ∷ row_prints 3 (Ok 8) "accepted 3 8\n"
+    ∷ row_prints 3 (Err (Unexplained 8 2)) "refused 15 8 2\n"
     ∷ []
 
 -- rows of our own: moves
@@ -708,8 +667,8 @@ our_shows =
     -- nor of fewer states than plans, nor under a table that is refused
     ∷ row_shows (star 3) 443 1 []
     ∷ row_shows (T1With 0 0 3 32) 443 1 []
-    ∷ row_prints 256 (verdict.Accepted 65535) "accepted 256 65535\n"
-    ∷ row_prints 1 (verdict.Accepted 0) "accepted 1 0\n"
+    ∷ row_prints 256 (Ok 65535) "accepted 256 65535\n"
+    ∷ row_prints 1 (Ok 0) "accepted 1 0\n"
     ∷ []
 
 -- k nodes from node i on, each 'not' the next

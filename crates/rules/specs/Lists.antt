@@ -1,5 +1,5 @@
 -- The few general notions that the definitions use: tests over a list of numbers, and the least number that passes a test. Assumes nothing.
-use Rattle.std.specs.Prelude.{ℕ, zero, suc, ◌+◌, Bool, true, false, cond, ◌&&◌, ◌||◌, List, [], ◌∷◌, ◌++◌, eqb}
+use Rattle.std.specs.Prelude.{ℕ, zero, suc, ◌+◌, Bool, true, false, cond, ◌&&◌, ◌||◌, List, [], ◌∷◌, ◌++◌, eqb, Option, Some, None}
 
 -- all numbers of a list pass a test
 abbrev pub all : (ℕ → Bool) → List ℕ → Bool
@@ -32,18 +32,13 @@ same [] (y ∷ ys) = false
 same (x ∷ xs) [] = false
 same (x ∷ xs) (y ∷ ys) = eqb x y && same xs ys
 
--- what a search for a number finds
-pub data Found : Type 0 where
-  Nowhere : Found
-  At : ℕ → Found
-
 -- the least of the k numbers from p on that passes a test
-unfoldable pub least_from : (ℕ → Bool) → ℕ → ℕ → Found
-least_from f p zero = Nowhere
-least_from f p (suc k) = elim (f p) [ true ↦ At p | false ↦ least_from f (p + 1) k ]
+unfoldable pub least_from : (ℕ → Bool) → ℕ → ℕ → Option ℕ
+least_from f p zero = None
+least_from f p (suc k) = elim (f p) [ true ↦ Some p | false ↦ least_from f (p + 1) k ]
 
 -- the least number below n that passes a test
-abbrev pub least : (ℕ → Bool) → ℕ → Found
+abbrev pub least : (ℕ → Bool) → ℕ → Option ℕ
 least f n = least_from f 0 n
 
 -- some number below n passes a test

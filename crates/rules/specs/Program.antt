@@ -2,15 +2,13 @@
 -- ends a table of version 2 behind its nodes, by (v). Assumes nothing.
 use Prim.Native.Nat.{ℕ, zero, suc, ◌+◌, ◌/◌, ◌%◌, ◌<◌, ◌≤◌}
 use Rattle.std.proofs.Math.Bool.{cond}
-use Rattle.std.specs.Prelude.{◌&&◌, ◌≡◌, List, [], ◌∷◌, ◌++◌, length, take, drop, ltb}
+use Rattle.std.specs.Prelude.{◌&&◌, ◌≡◌, List, [], ◌∷◌, ◌++◌, length, take, drop, ltb, Ok, Err}
 use Rattle.std.proofs.Math.Dec.{leb}
 use Rattle.rules.specs.Bytes.{text}
 use Rattle.rules.specs.Table.{plan_count}
 use Rattle.rules.specs.WaitFor.{table_size}
-use Rattle.rules.specs.Answers.{place, is_done, header_check, Judged}
+use Rattle.rules.specs.Answers.{place, is_done, header_check, Judged, Verdict}
 use Rattle.rules.specs.declared.Refusal.TheVariants.{InputLong}
-use Rattle.rules.specs.declared.Verdict.{Verdict}
-use Rattle.rules.specs.declared.Verdict.TheVariants.{Accepted, Refused}
 
 -- a number in decimal, of at most `more` digits and one; the number itself is more than enough
 unfoldable pub decimal_to : ℕ → ℕ → List ℕ
@@ -22,8 +20,8 @@ decimal x = decimal_to x x
 
 -- the line for a verdict on a table of n plans
 abbrev pub line : ℕ → Verdict → List ℕ
-line n (Accepted steps) = text "accepted " ++ decimal n ++ text " " ++ decimal steps ++ text "\n"
-line n (Refused why) =
+line n (Ok steps) = text "accepted " ++ decimal n ++ text " " ++ decimal steps ++ text "\n"
+line n (Err why) =
     text "refused "
     ++ decimal (place why).number
     ++ text " "
@@ -49,7 +47,7 @@ module _ (input : List ℕ) where
 
   -- the verdicts that are permitted on an input: 16 is looked for first, and the rule is 2
   pub data Answered : Verdict → Type 0 where
-    too_long : 65536 < length input → Answered (Refused InputLong)
+    too_long : 65536 < length input → Answered (Err InputLong)
     judged : {v : Verdict} → length input ≤ 65536 → Judged 2 table_of record_of v → Answered v
 
   -- the line that is printed, n being the plan count

@@ -5,14 +5,15 @@
 ghost use Rattle.std.specs.Prelude.{◌≡◌, ◌<◌, leb};
 ghost use Rattle.std.specs.Int.Count.{ones};
 ghost use Rattle.rules.specs.Bytes.{is_set};
-ghost use Rattle.rules.specs.States.{code, state_of, is, in_selection, in_execution, ended, has_run, cause_code};
-ghost use Rattle.rules.specs.Table.{body_number, body_of, is_body, of_two, retry_aborted, wait_for_optional, named, bit_of};
+ghost use Rattle.rules.specs.States.{code, state_of, in_selection, in_execution, ended, has_run, cause_code};
+ghost use Rattle.rules.specs.Table.{body_of, of_two, retry_aborted, wait_for_optional, named, bit_of};
 ghost use Rattle.rules.specs.WaitFor.{joined, asks};
 ghost use Rattle.rules.specs.Answers.{is_rule};
 ghost use Rattle.rules.specs.Words.{pick_of, holds, satisfiable};
 
-// The state of a plan.
-#[derive(Clone, Copy)]
+// The state of a plan, in the order of the codes.
+#[derive(Clone, Copy, PartialEq, Eq)]
+#[repr(u8)]
 pub enum PlanState {
     Inactive,
     Considered,
@@ -25,102 +26,76 @@ pub enum PlanState {
     Rejected,
 }
 
-impl PlanState {
-    pub const INACTIVE: u8 = 0;
+// The code of a state.
+impl From<PlanState> for u8 {
+    ghost from_gives = { λ state b. b ≡ code state };
 
-    pub const CONSIDERED: u8 = 1;
-
-    pub const POSSIBLE: u8 = 2;
-
-    pub const READY: u8 = 3;
-
-    pub const ACTIVATED: u8 = 4;
-
-    pub const SUSPENDED: u8 = 5;
-
-    pub const COMPLETED: u8 = 6;
-
-    pub const ABORTED: u8 = 7;
-
-    pub const REJECTED: u8 = 8;
-
-    // The code of the state.
-    pub fn to_byte(self) -> u8
-        ensures { result ≡ code self }
-    {
-        match self {
-            PlanState::Inactive => PlanState::INACTIVE,
-            PlanState::Considered => PlanState::CONSIDERED,
-            PlanState::Possible => PlanState::POSSIBLE,
-            PlanState::Ready => PlanState::READY,
-            PlanState::Activated => PlanState::ACTIVATED,
-            PlanState::Suspended => PlanState::SUSPENDED,
-            PlanState::Completed => PlanState::COMPLETED,
-            PlanState::Aborted => PlanState::ABORTED,
-            PlanState::Rejected => PlanState::REJECTED,
-        }
+    fn from(state: PlanState) -> u8 {
+        state as u8
     }
+}
 
-    // The state whose code is b. A byte above 8 is no code: check 11 or 15 refuses it, and here it counts as Rejected.
-    pub fn from_byte(b: u8) -> PlanState
-        ensures { result ≡ state_of b }
-    {
+// The state whose code is b. A byte above 8 is no code: check 11 or 15 refuses it, and here it counts as Rejected.
+impl From<u8> for PlanState {
+    ghost from_gives = { λ b state. state ≡ state_of b };
+
+    fn from(b: u8) -> PlanState {
         match b {
-            PlanState::INACTIVE => PlanState::Inactive,
-            PlanState::CONSIDERED => PlanState::Considered,
-            PlanState::POSSIBLE => PlanState::Possible,
-            PlanState::READY => PlanState::Ready,
-            PlanState::ACTIVATED => PlanState::Activated,
-            PlanState::SUSPENDED => PlanState::Suspended,
-            PlanState::COMPLETED => PlanState::Completed,
-            PlanState::ABORTED => PlanState::Aborted,
-            PlanState::REJECTED => PlanState::Rejected,
+            0 => PlanState::Inactive,
+            1 => PlanState::Considered,
+            2 => PlanState::Possible,
+            3 => PlanState::Ready,
+            4 => PlanState::Activated,
+            5 => PlanState::Suspended,
+            6 => PlanState::Completed,
+            7 => PlanState::Aborted,
             _ => PlanState::Rejected,
         }
     }
+}
 
-    // Whether this is the state `other`.
-    pub fn is(self, other: PlanState) -> bool
-        ensures { result ≡ is other self }
-    {
-        self.to_byte() == other.to_byte()
-    }
-
+impl PlanState {
     // Whether the plan is in selection.
     pub fn in_selection(self) -> bool
         ensures { result ≡ in_selection self }
     {
-        let b = self.to_byte();
-        (PlanState::CONSIDERED <= b) & (b <= PlanState::READY)
+        matches!(
+            self,
+            PlanState::Considered | PlanState::Possible | PlanState::Ready
+        )
     }
 
     // Whether the plan is in execution.
     pub fn in_execution(self) -> bool
         ensures { result ≡ in_execution self }
     {
-        let b = self.to_byte();
-        (PlanState::ACTIVATED <= b) & (b <= PlanState::SUSPENDED)
+        matches!(self, PlanState::Activated | PlanState::Suspended)
     }
 
     // Whether the plan has ended.
     pub fn is_ended(self) -> bool
         ensures { result ≡ ended self }
     {
-        let b = self.to_byte();
-        (PlanState::COMPLETED <= b) & (b <= PlanState::REJECTED)
+        matches!(
+            self,
+            PlanState::Completed | PlanState::Aborted | PlanState::Rejected
+        )
     }
 
     // Whether the plan is Activated, Suspended, Completed or Aborted.
     pub fn has_run(self) -> bool
         ensures { result ≡ has_run self }
     {
-        let b = self.to_byte();
-        (PlanState::ACTIVATED <= b) & (b <= PlanState::ABORTED)
+        matches!(
+            self,
+            PlanState::Activated | PlanState::Suspended | PlanState::Completed | PlanState::Aborted
+        )
     }
 }
 
-// Why a plan moved in a step.
+// Why a plan moved in a step, in the order of the codes.
 #[derive(Clone, Copy)]
+#[repr(u8)]
 pub enum Cause {
     Unmoved,
     Ordered,
@@ -129,23 +104,17 @@ pub enum Cause {
     Forced,
 }
 
-impl Cause {
-    // The code of the cause.
-    pub fn to_byte(self) -> u8
-        ensures { result ≡ cause_code self }
-    {
-        match self {
-            Cause::Unmoved => 0,
-            Cause::Ordered => 1,
-            Cause::OwnCondition => 2,
-            Cause::ChildrenLost => 3,
-            Cause::Forced => 4,
-        }
+// The code of a cause.
+impl From<Cause> for u8 {
+    ghost from_gives = { λ cause b. b ≡ cause_code cause };
+
+    fn from(cause: Cause) -> u8 {
+        cause as u8
     }
 }
 
 // The body of a plan: how it orders its children about.
-#[derive(Clone, Copy)]
+#[derive(Clone, Copy, PartialEq, Eq)]
 pub enum Body {
     Leaf,
     Sequential,
@@ -159,39 +128,18 @@ pub enum Body {
 }
 
 impl Body {
-    // The number of the body.
-    fn number(self) -> u8
-        ensures { result ≡ body_number self }
-    {
-        match self {
-            Body::Leaf => 0,
-            Body::Sequential => 1,
-            Body::Parallel => 2,
-            Body::AnyOrder => 3,
-            Body::Unordered => 4,
-            Body::OnAbort => 5,
-            Body::OnSuspend => 6,
-            Body::OnAbortOrSuspend => 7,
-            Body::IfThenElse => 8,
-        }
-    }
-
-    // Whether this is the body `other`.
-    pub fn is(self, other: Body) -> bool
-        ensures { result ≡ is_body other self }
-    {
-        self.number() == other.number()
-    }
-
     // Whether the body is one of two children: 5 to 8.
     pub fn is_of_two(self) -> bool
         ensures { result ≡ of_two self }
     {
-        5 <= self.number()
+        matches!(
+            self,
+            Body::OnAbort | Body::OnSuspend | Body::OnAbortOrSuspend | Body::IfThenElse
+        )
     }
 }
 
-// A condition of a plan.
+// A condition of a plan, in the order of the bits.
 #[derive(Clone, Copy)]
 pub enum Condition {
     Filter,
@@ -208,14 +156,7 @@ impl Condition {
         ensures is { result ≡ bit_of self }
         ensures small { result < 6 }
     {
-        match self {
-            Condition::Filter => 0,
-            Condition::Setup => 1,
-            Condition::Suspend => 2,
-            Condition::Reactivate => 3,
-            Condition::Abort => 4,
-            Condition::Complete => 5,
-        }
+        self as u32
     }
 }
 
@@ -399,7 +340,9 @@ pub struct Orders {
     pub retries: bool,
 }
 
-// Why a call is refused: the answer numbers of documents 01 and 02, in their order.
+// Why a call is refused: the answer numbers of documents 01 and 02, in their order. A call that answers only whether it is refused answers
+// `Result<(), Refusal>`; one that counts plans, steps or bytes hands out the number; the run to rest and the figure for it answer
+// `Result<Option<u16>, Refusal>`, with no number where the run has not come to rest, or no figure is known.
 #[derive(Clone, Copy)]
 pub enum Refusal {
     TableShort,
@@ -435,36 +378,6 @@ pub struct Place {
     pub number: u8,
     pub step: u16,
     pub plan: u16,
-}
-
-// What a check or a step answers.
-#[derive(Clone, Copy)]
-pub enum Outcome {
-    Done,
-    Refused(Refusal),
-}
-
-// What a whole table answers, with its plans, a whole record, with its steps, and a table that is moved, with the bytes written.
-#[derive(Clone, Copy)]
-pub enum Verdict {
-    Accepted(u16),
-    Refused(Refusal),
-}
-
-// What a run to rest answers.
-#[derive(Clone, Copy)]
-pub enum Rest {
-    Rested(u16),
-    Moving,
-    Refused(Refusal),
-}
-
-// What a question for the most steps to rest answers: so many, or that no figure is known.
-#[derive(Clone, Copy)]
-pub enum Figure {
-    Within(u16),
-    Unknown,
-    Refused(Refusal),
 }
 
 // Whether there is a rule of this number: 1, the old one, or 2, the new one.

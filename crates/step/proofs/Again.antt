@@ -10,8 +10,7 @@ use borrow.Author.Tests.{eq-eqb}
 use Rattle.rules.specs.Table.{plan_count}
 use Rattle.rules.specs.Rest.{after, steps_taken}
 use Rattle.rules.specs.HandedIn.{bad_state}
-use Rattle.rules.specs.Answers.{wrong_lengths, rule_check, table_check, lent_check, call_check, step_states, run_states}
-use Rattle.rules.specs.declared.Outcome.TheVariants.{Done}
+use Rattle.rules.specs.Answers.{wrong_lengths, rule_check, table_check, lent_check, call_check, step_states, run_states, Done}
 use Rattle.rules.proofs.Outcomes.{first_done, then_done, pass, pass_at, then_next}
 use Rattle.lowest.proofs.Lowest.{ends_here, lowest_none}
 use Rattle.demands.specs.PassesStates.{PassesStates}

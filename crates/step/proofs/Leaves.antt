@@ -3,10 +3,9 @@ use Prim.Native.Nat.{ℕ}
 use mathlib.Core.Path.{◌≡◌, refl, sym}
 use mathlib.Core.List.{List}
 use Rattle.rules.specs.Step.{step, causes}
-use Rattle.rules.specs.Answers.{call_check, step_answer, step_states, step_causes}
-use Rattle.rules.specs.declared.Outcome.{Outcome}
+use Rattle.rules.specs.Answers.{call_check, step_answer, step_states, step_causes, Outcome, Done}
 use Rattle.rules.specs.declared.Refusal.{Refusal}
-use Rattle.rules.specs.declared.Outcome.TheVariants.{Done, Refused}
+use Rattle.std.specs.Prelude.{Err}
 
 module _ (rule : ℕ) (t s w c : List ℕ) where
   -- the answer, and the states and causes that are left
@@ -14,7 +13,7 @@ module _ (rule : ℕ) (t s w c : List ℕ) where
   Left r states told =
       (r ≡ step_answer rule t s w c) × (states ≡ step_states rule t s w c) × (told ≡ step_causes rule t s w c)
 
-  pub step_refused : (why : Refusal) → call_check rule t s w c ≡ Refused why → Left (Refused why) s c
+  pub step_refused : (why : Refusal) → call_check rule t s w c ≡ Err why → Left (Err why) s c
   step_refused why e = (sym e, rw (step_states, e) refl, rw (step_causes, e) refl)
 
   pub step_done :

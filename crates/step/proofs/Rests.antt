@@ -11,16 +11,14 @@ use Rattle.rules.specs.Lists.{same}
 use Rattle.rules.specs.Table.{plan_count}
 use Rattle.rules.specs.Step.{step, causes as causes_of_step}
 use Rattle.rules.specs.Rest.{after, settled, least_rest, steps_taken, last_causes}
-use Rattle.rules.specs.Answers.{call_check, rest_answer, run_answer, run_states, run_causes}
+use Rattle.rules.specs.Answers.{call_check, rest_answer, run_answer, run_states, run_causes, Rest, Done}
 use Rattle.rules.specs.declared.Refusal.{Refusal}
-use Rattle.rules.specs.declared.Outcome.TheVariants as outcome
-use Rattle.rules.specs.declared.Rest.{Rest}
-use Rattle.rules.specs.declared.Rest.TheVariants.{Rested, Moving, Refused}
 use Rattle.lowest.proofs.Lowest.{lowest_at, lowest_none, stops_here, ends_here}
 use Rattle.demands.specs.BranchesAgree.{BranchesAgree}
 use Rattle.demands.proofs.PassedCall.{after_passes}
 use Rattle.lent.specs.Calls.{MayMove}
 use Rattle.step.specs.Runs.{Ran}
+use Rattle.std.specs.Prelude.{Ok, Err, Some, None}
 
 -- after k steps, none of which was without change, the states are these, and the causes those of the last one
 pub record Running (rule : ℕ) (t s w : List ℕ) (k : ℕ) (states causes : List ℕ) : Type 0 where
@@ -63,7 +61,7 @@ module _ (rule : ℕ) (t s w : List ℕ) where
 
     -- the run ends: here
     pub rests :
-        (budget : ℕ) → k ≤ budget → same (step rule t states w) states ≡ true → Ran rule t s w budget (Rested k) states causes
+        (budget : ℕ) → k ≤ budget → same (step rule t states w) states ≡ true → Ran rule t s w budget (Ok (Some k)) states causes
     unfolding least_rest
     rests budget l e =
         let found =
@@ -79,7 +77,7 @@ module _ (rule : ℕ) (t s w : List ℕ) where
 
     -- or the budget does
     pub moves :
-        (budget : ℕ) → k ≡ budget → same (step rule t states w) states ≡ false → Ran rule t s w budget Moving states causes
+        (budget : ℕ) → k ≡ budget → same (step rule t states w) states ≡ false → Ran rule t s w budget (Ok None) states causes
     unfolding least_rest
     moves budget l e =
         let none =
@@ -101,12 +99,12 @@ module _ (rule : ℕ) (t s w c : List ℕ) (budget : ℕ) where
   Left r states told =
       (r ≡ run_answer rule t s w c budget) × (states ≡ run_states rule t s w c budget) × (told ≡ run_causes rule t s w c budget)
 
-  pub run_refused : (why : Refusal) → call_check rule t s w c ≡ outcome.Refused why → Left (Refused why) s c
+  pub run_refused : (why : Refusal) → call_check rule t s w c ≡ Err why → Left (Err why) s c
   unfolding run_answer run_states run_causes
   run_refused why e = (rw (e, run_answer) refl, rw (e, run_states) refl, rw (e, run_causes) refl)
 
   pub run_done :
-      (r : Rest) (states told : List ℕ) → call_check rule t s w c ≡ outcome.Done → Ran rule t s w budget r states told
+      (r : Rest) (states told : List ℕ) → call_check rule t s w c ≡ Done → Ran rule t s w budget r states told
       → Left r states told
   unfolding run_answer run_states run_causes
   run_done r states told e ran =

@@ -19,11 +19,11 @@ use children::{resurvey, survey};
 use lent::check_call;
 use pass::{advance, take_over, take_picks, tell_causes, unchanged};
 use reading::plan_count;
-use rules::{Outcome, Rest};
+use rules::{Refusal};
 
 // One synchronous step over the states, by a rule, with the causes of all plans' moves; or a refusal that changes no state and no cause.
 // Its work space is cleared in each call: a small tree does not pay for a large one.
-pub fn step(rule: u32, table: &[u8], states: &mut [u8], words: &[u8], causes: &mut [u8]) -> Outcome
+pub fn step(rule: u32, table: &[u8], states: &mut [u8], words: &[u8], causes: &mut [u8]) -> Result<(), Refusal>
     ensures answer { result ≡ step_answer rule table.now states.old words.now
         causes.old }
     ensures left { states.new ≡ step_states rule table.now states.old words.now
@@ -98,7 +98,7 @@ pub fn rest(
     words: &[u8],
     causes: &mut [u8],
     budget: u16,
-) -> Rest
+) -> Result<Option<u16>, Refusal>
     ensures answer { result ≡ run_answer rule table.now states.old words.now
         causes.old budget }
     ensures left { states.new ≡ run_states rule table.now states.old words.now
@@ -119,8 +119,8 @@ pub fn rest(
         &mut counts,
         &mut names,
     ) {
-        Outcome::Refused(why) => Rest::Refused(why),
-        Outcome::Done => settle(rule, table, &ranks, &names, states, words, causes, budget),
+        Err(why) => Err(why),
+        Ok(()) => settle(rule, table, &ranks, &names, states, words, causes, budget),
     }
 }
 
@@ -146,7 +146,7 @@ fn step_within(
     names: &mut [u64],
     sets: &mut [u64],
     new: &mut [u8],
-) -> Outcome
+) -> Result<(), Refusal>
     requires facts { FactsRoom table.now ranks.old counts.old names.old }
     requires room { RoomToStep table.now sets.old new.old }
     ensures answer { result ≡ step_answer rule table.now states.old words.now
@@ -157,13 +157,13 @@ fn step_within(
         causes.old }
 {
     match check_call(rule, table, states, words, causes, ranks, counts, names) {
-        Outcome::Refused(why) => Outcome::Refused(why),
-        Outcome::Done => {
+        Err(why) => Err(why),
+        Ok(()) => {
             // the numbers of children are done with: their room is the picks'
             step_over(
                 rule, table, ranks, names, states, words, causes, sets, counts, new,
             );
-            Outcome::Done
+            Ok(())
         }
     }
 }
@@ -218,7 +218,7 @@ fn settle(
     words: &[u8],
     causes: &mut [u8],
     budget: u16,
-) -> Rest
+) -> Result<Option<u16>, Refusal>
     requires moves { MayMove table.now states.old words.now ranks.now names.now }
     requires words { BranchesAgree table.now words.now }
     requires told { length causes.old ≡ length states.old }
@@ -239,10 +239,10 @@ fn settle(
             rule, table, n, ranks, names, &sets, &picks, states, words, &mut new,
         );
         if unchanged(&new, states) {
-            return Rest::Rested(k);
+            return Ok(Some(k));
         }
         if k == budget {
-            return Rest::Moving;
+            return Ok(None);
         }
         resurvey(table, n, ranks, states, &new[..n], &mut sets);
         take_step(table, words, &new, states, causes);

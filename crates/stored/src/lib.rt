@@ -79,11 +79,11 @@ fn stamp_plan(state: u8, number: u32, stored: &mut [u8], p: usize) -> usize
     ensures { Appended stored.old (8 * p) (eight_bytes state (since_after number
         (state_of (state_byte stored.old p)) (state_of state) (since_at stored.old p))) stored.new result }
 {
-    let old = PlanState::from_byte(stored[8 * p]);
+    let old = PlanState::from(stored[8 * p]);
     let since = since_after(
         number,
         old,
-        PlanState::from_byte(state),
+        PlanState::from(state),
         u32_at(stored, 8 * p + 4),
     );
     put_eight(state, since, stored, 8 * p)
@@ -100,7 +100,7 @@ fn since_after(number: u32, old: PlanState, new: PlanState, since: u32) -> u32
 fn enters(old: PlanState, new: PlanState) -> bool
     ensures { result ≡ enters old new }
 {
-    (old.is(PlanState::Ready) | old.is(PlanState::Suspended)) & new.is(PlanState::Activated)
+    ((old == PlanState::Ready) | (old == PlanState::Suspended)) & (new == PlanState::Activated)
 }
 
 // Puts a plan's eight bytes there.

@@ -6,27 +6,13 @@ use mathlib.Core.Bool.{Bool, true, false, cond, not}
 use mathlib.Core.List.{List}
 use lib.Dec.{eqb}
 use lib.ListN.{length, get_or}
-use Rattle.rules.specs.Lists.{least, some_below, Nowhere, At}
+use Rattle.rules.specs.Lists.{least, some_below}
 use Rattle.rules.specs.Bytes.{byte_at}
 use Rattle.rules.specs.Table.{plan_count, entry, named, children_before, children}
 use Rattle.rules.specs.WaitFor.{first_version, node_count, table_size}
-use Rattle.rules.specs.Answers.{
-  ◌and_then◌,
-  refuse_at,
-  bad_parent,
-  undefined_byte,
-  unfit,
-  too_many,
-  formulas_check,
-  asks_too_many,
-  bad_wait,
-  header_check,
-  plans_check,
-  table_check,
-}
+use Rattle.rules.specs.Answers.{◌and_then◌, refuse_at, bad_parent, undefined_byte, unfit, too_many, formulas_check, asks_too_many, bad_wait, header_check, plans_check, table_check, Done}
 use Rattle.rules.specs.declared.Refusal.{Refusal}
 use Rattle.rules.specs.declared.Refusal.TheVariants.{TableLength, Parent, Undefined, Unfit, Wait}
-use Rattle.rules.specs.declared.Outcome.TheVariants.{Done, Refused}
 use Rattle.rules.proofs.Outcomes.{
   refused_not_done,
   pass,
@@ -46,47 +32,48 @@ use Rattle.lowest.specs.Lowest.{Lowest}
 use Rattle.formulas.specs.Asked.{Numbered}
 use Rattle.table.specs.Facts.{Shaped, waits_check, Known, FactsRoom, Facts, Checked, Prepared}
 use Rattle.lowest.proofs.Lowest.{lowest_at, lowest_none}
+use Rattle.std.specs.Prelude.{Err, Some, None}
 
 -- a search over n plans is one over the table's plans
 module _ (t : List ℕ) (n : ℕ) (whole : n ≡ plan_count t) (f : ℕ → Bool) (r : ℕ) (lowest : Lowest f n r) where
-  pub found_at : r < n → least f (plan_count t) ≡ At r
+  pub found_at : r < n → least f (plan_count t) ≡ Some r
   found_at l = rw (← whole) (lowest_at f n r lowest l)
 
-  pub found_none : n ≤ r → least f (plan_count t) ≡ Nowhere
+  pub found_none : n ≤ r → least f (plan_count t) ≡ None
   found_none l = rw (← whole) (lowest_none f n r lowest l)
 
 -- a header that is refused is the table's refusal
-pub header_refused : (t : List ℕ) (why : Refusal) → header_check t ≡ Refused why → table_check t ≡ Refused why
+pub header_refused : (t : List ℕ) (why : Refusal) → header_check t ≡ Err why → table_check t ≡ Err why
 unfolding table_check
 header_refused t why e = then_stops (header_check t) _ why e
 
 module _ (t : List ℕ) (good : header_check t ≡ Done) where
-  pub stops_at_length : eqb (length t) (table_size t) ≡ false → table_check t ≡ Refused TableLength
+  pub stops_at_length : eqb (length t) (table_size t) ≡ false → table_check t ≡ Err TableLength
   unfolding table_check
   stops_at_length other = then_next (header_check t) _ good ∙ stop _ _ _ (ap not other)
 
   module _ (long : eqb (length t) (table_size t) ≡ true) where
-    pub stops_at_parent : (p : ℕ) → least (bad_parent t) (plan_count t) ≡ At p → table_check t ≡ Refused (Parent p)
+    pub stops_at_parent : (p : ℕ) → least (bad_parent t) (plan_count t) ≡ Some p → table_check t ≡ Err (Parent p)
     unfolding table_check
     stops_at_parent p e =
         then_next (header_check t) _ good ∙ pass _ _ _ (ap not long) ∙ stop_at _ _ _ p e
 
-    pub going_on : least (bad_parent t) (plan_count t) ≡ Nowhere → table_check t ≡ plans_check t
+    pub going_on : least (bad_parent t) (plan_count t) ≡ None → table_check t ≡ plans_check t
     unfolding table_check
     going_on e = then_next (header_check t) _ good ∙ pass _ _ _ (ap not long) ∙ pass_at _ _ _ e
 
 -- checks 7, 8, 22 and 9
 module _ (t : List ℕ) where
-  pub plans_undefined : (p : ℕ) → least (undefined_byte t) (plan_count t) ≡ At p → plans_check t ≡ Refused (Undefined p)
+  pub plans_undefined : (p : ℕ) → least (undefined_byte t) (plan_count t) ≡ Some p → plans_check t ≡ Err (Undefined p)
   unfolding plans_check
   plans_undefined p e = stop_at _ _ _ p e
 
-  module _ (defined : least (undefined_byte t) (plan_count t) ≡ Nowhere) where
-    pub plans_unfit : (p : ℕ) → least (unfit t) (plan_count t) ≡ At p → plans_check t ≡ Refused (Unfit p)
+  module _ (defined : least (undefined_byte t) (plan_count t) ≡ None) where
+    pub plans_unfit : (p : ℕ) → least (unfit t) (plan_count t) ≡ Some p → plans_check t ≡ Err (Unfit p)
     unfolding plans_check
     plans_unfit p e = pass_at _ _ _ defined ∙ stop_at _ _ _ p e
 
-    pub plans_waits : least (unfit t) (plan_count t) ≡ Nowhere → plans_check t ≡ waits_check t
+    pub plans_waits : least (unfit t) (plan_count t) ≡ None → plans_check t ≡ waits_check t
     unfolding plans_check
     plans_waits fit = pass_at _ _ _ defined ∙ pass_at _ _ _ fit
 
@@ -103,10 +90,10 @@ module _ (t : List ℕ) where
     unfolding bad_wait
     waits_by_number p = sym (ap (λ (b : Bool). cond b (too_many t p (entry t p).wait) (some_below (asks_too_many t p) (node_count t))) first)
 
-    pub waits_wait : (p : ℕ) → least (bad_wait t) (plan_count t) ≡ At p → waits_check t ≡ Refused (Wait p)
+    pub waits_wait : (p : ℕ) → least (bad_wait t) (plan_count t) ≡ Some p → waits_check t ≡ Err (Wait p)
     waits_wait p e = waits_first ∙ stop_at_last _ _ p e
 
-    pub waits_done : least (bad_wait t) (plan_count t) ≡ Nowhere → waits_check t ≡ Done
+    pub waits_done : least (bad_wait t) (plan_count t) ≡ None → waits_check t ≡ Done
     waits_done e = waits_first ∙ pass_at_last _ _ e
 
   -- of plans that pass, check 22 passes
@@ -118,7 +105,7 @@ module _ (t : List ℕ) where
 
 -- a refusal brings no facts
 pub refused_checked :
-    (t ranks counts names : List ℕ) (why : Refusal) → table_check t ≡ Refused why → Checked t ranks counts names (Refused why)
+    (t ranks counts names : List ℕ) (why : Refusal) → table_check t ≡ Err why → Checked t ranks counts names (Err why)
 refused_checked t ranks counts names why e = record { is = sym e; facts = λ d. refused_not_done why d }
 
 -- what check 6 and the collecting of names leave

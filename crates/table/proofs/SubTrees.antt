@@ -8,21 +8,21 @@ use lib.Dec.{eqb, ltb}
 use lib.ListN.{length, take, drop}
 use borrow.Author.Tests.{eq-eqb, ne_eqb, lt-ltb, le-ltb}
 use Rattle.rules.specs.Table.{plan_count}
-use Rattle.rules.specs.Answers.{is_done, table_check}
+use Rattle.rules.specs.Answers.{is_done, table_check, Done}
 use Rattle.rules.specs.SubTree.{last_descendant, sub_tree}
 use Rattle.rules.specs.declared.Refusal.{Refusal}
-use Rattle.rules.specs.declared.Outcome.TheVariants.{Done, Refused}
 use Rattle.rules.proofs.Tree.{passes, tree, rule_at}
 use Rattle.lowest.specs.Lowest.{Lowest}
 use Rattle.table.specs.Facts.{outside}
 use Rattle.table.proofs.Descendants.{last_is}
+use Rattle.std.specs.Prelude.{Err}
 
 module _ (t s : List ℕ) (plan : ℕ) where
   -- a test that fails leaves nothing
   empty : (b : Bool) (l : List ℕ) → b ≡ false → cond b l [] ≡ []
   empty b l e = rw e
 
-  pub none_of_refused : (why : Refusal) → table_check t ≡ Refused why → sub_tree t s plan ≡ []
+  pub none_of_refused : (why : Refusal) → table_check t ≡ Err why → sub_tree t s plan ≡ []
   unfolding sub_tree
   none_of_refused why e = empty _ _ (ap (λ o. is_done o && eqb (length s) (plan_count t) && ltb plan (plan_count t)) e)
 

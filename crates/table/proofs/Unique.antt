@@ -8,9 +8,7 @@ use mathlib.Core.List.{List}
 use lib.ListN.{get_or}
 use contract.Lifetimes.{Lfts}
 use Rattle.rules.specs.Table.{plan_count}
-use Rattle.rules.specs.Answers.{table_check}
-use Rattle.rules.specs.declared.Outcome.{Outcome}
-use Rattle.rules.specs.declared.Outcome.TheVariants.{Done}
+use Rattle.rules.specs.Answers.{table_check, Outcome, Done}
 use Rattle.rules.proofs.Unique.{one_answer, OneAnswer, by_equation}
 use Rattle.children.proofs.Unique.{Alike}
 use Rattle.table.specs.Facts.{Facts}

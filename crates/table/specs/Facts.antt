@@ -5,27 +5,12 @@ use Rattle.rules.specs.Bytes.{byte_at}
 use Rattle.rules.specs.Lists.{least}
 use Rattle.rules.specs.Table.{plan_count, parent, entry, named, children, rank}
 use Rattle.rules.specs.WaitFor.{first_version, table_size}
-use Rattle.rules.specs.Answers.{
-  ◌and_then◌,
-  refuse_at,
-  bad_parent,
-  undefined_entry,
-  unfit_entry,
-  undefined_byte,
-  unfit,
-  too_many,
-  formulas_check,
-  bad_wait,
-  header_check,
-  table_check,
-}
+use Rattle.rules.specs.Answers.{◌and_then◌, refuse_at, bad_parent, undefined_entry, unfit_entry, undefined_byte, unfit, too_many, formulas_check, bad_wait, header_check, table_check, Outcome, Done}
 use Rattle.children.specs.Sets.{set_of, Rooted, Ranked, Narrow}
 use Rattle.formulas.specs.Asked.{number_asked}
 use Rattle.lowest.specs.Lowest.{Lowest}
 use Rattle.rules.specs.declared.PlanEntry.{PlanEntry}
 use Rattle.rules.specs.declared.Refusal.{Refusal}
-use Rattle.rules.specs.declared.Outcome.{Outcome}
-use Rattle.rules.specs.declared.Outcome.TheVariants.{Done}
 use Rattle.table.specs.declared.Rule.{Rule}
 use Rattle.table.specs.declared.Rule.TheVariants.{Undefined, Unfit, Wait}
 

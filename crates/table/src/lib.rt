@@ -19,7 +19,7 @@ use children::{collect_named, rank_children};
 use formulas::find_numbers;
 use nodes::check_formulas;
 use reading::{entry_at, is_first_version, parent_at, plan_count, u16_at, u16_within};
-use rules::{Body, Outcome, PlanEntry, Refusal, Verdict};
+use rules::{Body, PlanEntry, Refusal};
 
 // Whether a slice begins with `AP` and a third letter, the mark of a table or a record.
 pub fn has_mark(s: &[u8], letter: u8) -> bool
@@ -30,29 +30,29 @@ pub fn has_mark(s: &[u8], letter: u8) -> bool
 }
 
 // Checks 1 to 4.
-pub fn header_check(table: &[u8]) -> Outcome
+pub fn header_check(table: &[u8]) -> Result<(), Refusal>
     ensures { result ≡ header_check table.now }
 {
     if table.len() < 8 {
-        return Outcome::Refused(Refusal::TableShort);
+        return Err(Refusal::TableShort);
     }
     if !has_mark(table, b'T') {
-        return Outcome::Refused(Refusal::TableMark);
+        return Err(Refusal::TableMark);
     }
     let version = u16_at(table, 3);
     if !((version == 1) | (version == 2)) {
-        return Outcome::Refused(Refusal::TableVersion);
+        return Err(Refusal::TableVersion);
     }
     let n = u16_at(table, 5);
     if (n < 1) | (256 < n) | (table[7] != 0) {
-        return Outcome::Refused(Refusal::TableCount);
+        return Err(Refusal::TableCount);
     }
-    Outcome::Done
+    Ok(())
 }
 
 // Where a table whose header passes ends: behind its plans or, in version 2, its nodes. Bytes that are missing count as 0.
 pub fn table_size(table: &[u8]) -> usize
-    requires { header_check table.now ≡ Outcome.Done }
+    requires { header_check table.now ≡ Done }
     ensures { result ≡ table_size table.now }
 {
     let plans = 8 + 8 * plan_count(table);
@@ -72,26 +72,26 @@ pub enum Rule {
 
 // Checks 1 to 9 and 22. Of a good table the buffers then hold the plans' ranks, numbers of children, named children, and, behind these,
 // how many of them each plan waits for.
-pub fn read_table(table: &[u8], ranks: &mut [u8], counts: &mut [u8], names: &mut [u64]) -> Outcome
+pub fn read_table(table: &[u8], ranks: &mut [u8], counts: &mut [u8], names: &mut [u64]) -> Result<(), Refusal>
     requires { FactsRoom table.now ranks.old counts.old names.old }
     ensures { Checked table.now ranks.new counts.new names.new result }
 {
     match header_check(table) {
-        Outcome::Refused(why) => Outcome::Refused(why),
-        Outcome::Done => body_check(table, ranks, counts, names),
+        Err(why) => Err(why),
+        Ok(()) => body_check(table, ranks, counts, names),
     }
 }
 
 // What document 01 says of a table: accepted with its number of plans, or refused.
-pub fn check_table(table: &[u8]) -> Verdict
+pub fn check_table(table: &[u8]) -> Result<u16, Refusal>
     ensures { result ≡ table_verdict table.now }
 {
     let mut ranks = [0u8; 256];
     let mut counts = [0u8; 256];
     let mut names = [0u64; 512];
     match read_table(table, &mut ranks, &mut counts, &mut names) {
-        Outcome::Refused(why) => Verdict::Refused(why),
-        Outcome::Done => Verdict::Accepted(u16_at(table, 5)),
+        Err(why) => Err(why),
+        Ok(()) => Ok(u16_at(table, 5)),
     }
 }
 
@@ -100,8 +100,8 @@ pub fn sub_tree<'a>(table: &[u8], states: &'a [u8], plan: usize) -> &'a [u8]
     ensures { result.now ≡ sub_tree table.now states.now plan }
 {
     match check_table(table) {
-        Verdict::Refused(_) => &states[0..0],
-        Verdict::Accepted(n) => part(table, n as usize, states, plan),
+        Err(_) => &states[0..0],
+        Ok(n) => part(table, n as usize, states, plan),
     }
 }
 
@@ -181,7 +181,7 @@ fn unfit_entry(p: usize, count: u8, e: PlanEntry) -> bool
     ensures { result ≡ unfit_entry p count e }
 {
     let kind = e.body_kind();
-    let leaf = kind.is(Body::Leaf);
+    let leaf = (kind == Body::Leaf);
     let childless = count == 0;
     let body = (leaf & !childless) | (!leaf & childless);
     let root = (p == 0) & e.is_named();
@@ -221,25 +221,25 @@ fn lowest_breaking(rule: Rule, table: &[u8], n: usize, counts: &[u8], names: &[u
 }
 
 // Checks 7, 8, 22 and 9.
-fn plans_check(table: &[u8], n: usize, counts: &[u8], names: &[u64]) -> Outcome
+fn plans_check(table: &[u8], n: usize, counts: &[u8], names: &[u64]) -> Result<(), Refusal>
     requires { Known table.now n counts.now names.now }
     ensures { result ≡ plans_check table.now }
 {
     let undefined = lowest_breaking(Rule::Undefined, table, n, counts, names);
     if undefined < n {
-        return Outcome::Refused(Refusal::Undefined {
+        return Err(Refusal::Undefined {
             plan: undefined as u16,
         });
     }
     let unfit = lowest_breaking(Rule::Unfit, table, n, counts, names);
     if unfit < n {
-        return Outcome::Refused(Refusal::Unfit { plan: unfit as u16 });
+        return Err(Refusal::Unfit { plan: unfit as u16 });
     }
     waits_check(table, n, counts, names)
 }
 
 // Check 9 of a table of version 1, checks 22 and 9 of one of version 2.
-fn waits_check(table: &[u8], n: usize, counts: &[u8], names: &[u64]) -> Outcome
+fn waits_check(table: &[u8], n: usize, counts: &[u8], names: &[u64]) -> Result<(), Refusal>
     requires { Known table.now n counts.now names.now }
     ensures { result ≡ waits_check table.now }
 {
@@ -248,40 +248,40 @@ fn waits_check(table: &[u8], n: usize, counts: &[u8], names: &[u64]) -> Outcome
     }
     let wait = lowest_breaking(Rule::Wait, table, n, counts, names);
     if wait < n {
-        return Outcome::Refused(Refusal::Wait { plan: wait as u16 });
+        return Err(Refusal::Wait { plan: wait as u16 });
     }
-    Outcome::Done
+    Ok(())
 }
 
 // Checks 7, 8, 22 and 9, and of plans that pass the numbers of children that they wait for.
-fn check_and_number(table: &[u8], n: usize, counts: &[u8], names: &mut [u64]) -> Outcome
+fn check_and_number(table: &[u8], n: usize, counts: &[u8], names: &mut [u64]) -> Result<(), Refusal>
     requires known { Known table.now n counts.now names.old }
     requires room { n + n ≤ length names.old }
     ensures is { result ≡ plans_check table.now }
-    ensures numbered { result ≡ Outcome.Done → Numbered table.now n n names.old names.new }
+    ensures numbered { result ≡ Done → Numbered table.now n n names.old names.new }
 {
     match plans_check(table, n, counts, names) {
-        Outcome::Refused(why) => Outcome::Refused(why),
-        Outcome::Done => {
+        Err(why) => Err(why),
+        Ok(()) => {
             find_numbers(table, n, names);
-            Outcome::Done
+            Ok(())
         }
     }
 }
 
 // The checks from 5 on, of a table whose header passes.
-fn body_check(table: &[u8], ranks: &mut [u8], counts: &mut [u8], names: &mut [u64]) -> Outcome
-    requires header { header_check table.now ≡ Outcome.Done }
+fn body_check(table: &[u8], ranks: &mut [u8], counts: &mut [u8], names: &mut [u64]) -> Result<(), Refusal>
+    requires header { header_check table.now ≡ Done }
     requires room { FactsRoom table.now ranks.old counts.old names.old }
     ensures { Checked table.now ranks.new counts.new names.new result }
 {
     let n = plan_count(table);
     if table.len() != table_size(table) {
-        return Outcome::Refused(Refusal::TableLength);
+        return Err(Refusal::TableLength);
     }
     let parent = lowest_bad_parent(table, n, ranks, counts);
     if parent < n {
-        return Outcome::Refused(Refusal::Parent {
+        return Err(Refusal::Parent {
             plan: parent as u16,
         });
     }
@@ -306,7 +306,7 @@ fn end_of(table: &[u8], n: usize, plan: usize) -> usize
 
 // The part of the states that is a sub tree, of a table that passes.
 fn part<'a>(table: &[u8], n: usize, states: &'a [u8], plan: usize) -> &'a [u8]
-    requires { (table_check table.now ≡ Outcome.Done) × (n ≡ plan_count table.now) }
+    requires { (table_check table.now ≡ Done) × (n ≡ plan_count table.now) }
     ensures { result.now ≡ sub_tree table.now states.now plan }
 {
     if states.len() != n {

@@ -3,8 +3,7 @@
 -- of at most k. Both contracts are taken as Rattle reads them. Assumes nothing.
 use Prim.Native.Nat.{ℕ, ◌≤◌}
 use mathlib.Core.Path.{◌≡◌, refl, ap, ◌∙◌}
-use Rattle.rules.specs.Answers.{call_check}
-use Rattle.rules.specs.declared.Outcome.TheVariants.{Done}
+use Rattle.rules.specs.Answers.{call_check, Done}
 use Rattle.demands.specs.Bound.{RestsWithin}
 use Rattle.tablet.specs.Packed.{packed, packed_rest}
 use Rattle.tablet.proofs.asbru_rest.Reads as asbru_rest

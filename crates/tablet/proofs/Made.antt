@@ -7,11 +7,10 @@ use mathlib.Core.Bool.{Bool, true, false, cond, ◌&&◌, false≢true}
 use mathlib.Core.List.{List}
 use borrow.Author.Tests.{eqb-true}
 use lib.Dec.{eqb, leb}
-use Rattle.rules.specs.Answers.{wrong_word_if}
+use Rattle.rules.specs.Answers.{wrong_word_if, Done}
 use Rattle.rules.specs.Bytes.{is_set}
 use Rattle.rules.specs.Words.{with_pattern}
 use Rattle.rules.specs.declared.Body.{Body}
-use Rattle.rules.specs.declared.Outcome.TheVariants.{Done}
 use Rattle.rules.proofs.Known.{fits, still_passes}
 use Rattle.time.specs.Annotations.{counted, annotation_of}
 use Rattle.time.specs.Patterns.{true_at, Satisfied, Satisfiable, pattern_check, Judged, refused, satisfied, satisfiable, neither}

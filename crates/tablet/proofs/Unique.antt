@@ -5,7 +5,7 @@ use Prim.Native.Nat.{ℕ, ◌/◌, ◌%◌, ◌^◌, ◌<◌, ◌≤◌}
 use native.Mathlib.Omega.{arith}
 use mathlib.Core.Path.{◌≡◌, refl, sym, ap, ◌∙◌}
 use mathlib.Core.List.{List}
-use Rattle.rules.specs.Answers.{place}
+use Rattle.rules.specs.Answers.{place, Rest, Figure}
 use Rattle.rules.specs.declared.Refusal.{Refusal}
 use Rattle.rules.specs.declared.Refusal.TheVariants.{
   TableShort,
@@ -34,10 +34,6 @@ use Rattle.rules.specs.declared.Refusal.TheVariants.{
   OutputShort,
   NormalRange,
 }
-use Rattle.rules.specs.declared.Rest.{Rest}
-use Rattle.rules.specs.declared.Rest.TheVariants as rest
-use Rattle.rules.specs.declared.Figure.{Figure}
-use Rattle.rules.specs.declared.Figure.TheVariants as figure
 use Rattle.rules.proofs.Unique.{one_answer, by_equation, OneAnswer, OneAnswerLeaving, OneAnswerLeavingTwo}
 use Rattle.demands.proofs.Unique.{judged_once}
 use Rattle.time.proofs.Unique as time
@@ -62,6 +58,7 @@ use Rattle.tablet.specs.Packed.{
   PatternTold,
   NormalTold,
 }
+use Rattle.std.specs.Prelude.{Ok, Err, Some, None}
 
 told_once : (rule : ℕ) (t r : List ℕ) {a b : ℕ} → Told rule t r a → Told rule t r b → a ≡ b
 told_once rule t r x y = x.told ∙ ap packed_verdict (judged_once rule t r x.judged y.judged) ∙ sym y.told
@@ -160,18 +157,18 @@ pub no_refusal :
 no_refusal step plan why e = omega (arith, (refusal_number why).0, (refusal_number why).1)
 
 -- so an answer with number 0 and plan 0 is a figure
-pub figure_found : (b : Figure) (k : ℕ) → packed_bound b ≡ packed 0 k 0 → b ≡ figure.Within k
-figure_found (figure.Within j) k e = ap figure.Within (omega (arith, e))
-figure_found figure.Unknown k e = absurd (omega (arith, e))
-figure_found (figure.Refused why) k e = absurd (no_refusal k 0 why (sym e))
+pub figure_found : (b : Figure) (k : ℕ) → packed_bound b ≡ packed 0 k 0 → b ≡ Ok (Some k)
+figure_found (Ok (Some j)) k e = ap Ok (Some (omega (arith, e)))
+figure_found (Ok None) k e = absurd (omega (arith, e))
+figure_found (Err why) k e = absurd (no_refusal k 0 why (sym e))
 
 -- and one of the run is a rest after so many steps; with plan 1 the run is still moving, and the step is its budget
-pub rest_found : (budget : ℕ) (r : Rest) (k : ℕ) → packed_rest budget r ≡ packed 0 k 0 → r ≡ rest.Rested k
-rest_found budget (rest.Rested j) k e = ap rest.Rested (omega (arith, e))
-rest_found budget rest.Moving k e = absurd (omega (arith, e))
-rest_found budget (rest.Refused why) k e = absurd (no_refusal k 0 why (sym e))
+pub rest_found : (budget : ℕ) (r : Rest) (k : ℕ) → packed_rest budget r ≡ packed 0 k 0 → r ≡ Ok (Some k)
+rest_found budget (Ok (Some j)) k e = ap Ok (Some (omega (arith, e)))
+rest_found budget (Ok None) k e = absurd (omega (arith, e))
+rest_found budget (Err why) k e = absurd (no_refusal k 0 why (sym e))
 
-pub moving_found : (budget : ℕ) (r : Rest) (k : ℕ) → packed_rest budget r ≡ packed 0 k 1 → (r ≡ rest.Moving) × (k ≡ budget)
-moving_found budget (rest.Rested j) k e = absurd (omega (arith, e))
-moving_found budget rest.Moving k e = (refl, omega (arith, e))
-moving_found budget (rest.Refused why) k e = absurd (no_refusal k 1 why (sym e))
+pub moving_found : (budget : ℕ) (r : Rest) (k : ℕ) → packed_rest budget r ≡ packed 0 k 1 → (r ≡ Ok None) × (k ≡ budget)
+moving_found budget (Ok (Some j)) k e = absurd (omega (arith, e))
+moving_found budget (Ok None) k e = (refl, omega (arith, e))
+moving_found budget (Err why) k e = absurd (no_refusal k 1 why (sym e))

@@ -1,20 +1,12 @@
 -- What a host program written in C is answered: one 64-bit number that holds a number, a plan and a step. Assumes nothing.
-use Rattle.std.specs.Prelude.{ℕ, ◌+◌, ◌*◌, ◌%◌, ◌^◌, ◌≡◌, cond, ◌&&◌, List, [], ◌∷◌, get_or, eqb, leb}
-use Rattle.rules.specs.Answers.{place, Judged}
+use Rattle.std.specs.Prelude.{ℕ, ◌+◌, ◌*◌, ◌%◌, ◌^◌, ◌≡◌, cond, ◌&&◌, List, [], ◌∷◌, get_or, eqb, leb, Ok, Err, Some, None}
+use Rattle.rules.specs.Answers.{place, Judged, Outcome, Verdict, Rest, Figure}
 use Rattle.rules.specs.Bytes.{is_set}
 use Rattle.rules.specs.Words.{with_pattern}
 use Rattle.rules.specs.declared.Condition.TheVariants.{Filter, Setup, Suspend, Reactivate, Abort, Complete}
 use Rattle.rules.specs.declared.Pattern.{Pattern}
 use Rattle.rules.specs.declared.Pattern.TheVariants.{Of, If}
 use Rattle.rules.specs.declared.Refusal.{Refusal}
-use Rattle.rules.specs.declared.Outcome.{Outcome}
-use Rattle.rules.specs.declared.Outcome.TheVariants as outcome
-use Rattle.rules.specs.declared.Rest.{Rest}
-use Rattle.rules.specs.declared.Rest.TheVariants as rest
-use Rattle.rules.specs.declared.Figure.{Figure}
-use Rattle.rules.specs.declared.Figure.TheVariants as figure
-use Rattle.rules.specs.declared.Verdict.{Verdict}
-use Rattle.rules.specs.declared.Verdict.TheVariants as verdict
 use Rattle.time.specs.Patterns as time
 use Rattle.time.specs.Normal.{Normalised}
 use Rattle.time.specs.declared.Judgement.{Judgement}
@@ -30,25 +22,25 @@ packed_refusal why = packed (place why).number (place why).step (place why).plan
 
 -- the step: done is 0
 abbrev pub packed_outcome : Outcome → ℕ
-packed_outcome outcome.Done = packed 0 0 0
-packed_outcome (outcome.Refused why) = packed_refusal why
+packed_outcome (Ok tt) = packed 0 0 0
+packed_outcome (Err why) = packed_refusal why
 
 -- the run to rest: rested after k has number 0, plan 0 and k as its step; still moving has number 0, plan 1 and the budget as its step
 abbrev pub packed_rest : ℕ → Rest → ℕ
-packed_rest budget (rest.Rested k) = packed 0 k 0
-packed_rest budget rest.Moving = packed 0 budget 1
-packed_rest budget (rest.Refused why) = packed_refusal why
+packed_rest budget (Ok (Some k)) = packed 0 k 0
+packed_rest budget (Ok None) = packed 0 budget 1
+packed_rest budget (Err why) = packed_refusal why
 
 -- the most steps to rest: a figure has number 0, plan 0 and the figure as its step; where none is known, number 0, plan 1 and step 0
 abbrev pub packed_bound : Figure → ℕ
-packed_bound (figure.Within k) = packed 0 k 0
-packed_bound figure.Unknown = packed 0 0 1
-packed_bound (figure.Refused why) = packed_refusal why
+packed_bound (Ok (Some k)) = packed 0 k 0
+packed_bound (Ok None) = packed 0 0 1
+packed_bound (Err why) = packed_refusal why
 
 -- the checker: accepted has number 0, plan 0 and the number of steps as its step; a move the number of bytes written
 abbrev pub packed_verdict : Verdict → ℕ
-packed_verdict (verdict.Accepted steps) = packed 0 steps 0
-packed_verdict (verdict.Refused why) = packed_refusal why
+packed_verdict (Ok steps) = packed 0 steps 0
+packed_verdict (Err why) = packed_refusal why
 
 -- an answer of the checker by a rule on a table and a record: a verdict that is permitted on them, packed
 pub record Told (rule : ℕ) (t r : List ℕ) (answer : ℕ) : Type 0 where

@@ -11,7 +11,7 @@ ghost use Rattle.versions.specs.Versions.{check_to1, check_to2, in_version1, in_
 ghost use Rattle.tablet.specs.Packed.{packed, packed_refusal, packed_outcome, packed_rest, packed_bound, packed_verdict, Told};
 ghost use Rattle.tablet.specs.Packed.{packed_judgement, PatternTold, NormalTold, pattern_of, with_answer};
 
-use rules::{Condition, Figure, Outcome, Pattern, Refusal, Rest, Verdict};
+use rules::{Condition, Pattern, Refusal};
 use time::Judgement;
 
 // One synchronous step over the states, by a rule, with the causes of all plans' moves; or a refusal that changes no state and no cause.
@@ -179,44 +179,44 @@ fn bits_if(b: bool, bits: u32) -> u32
 }
 
 // What the step answers.
-fn pack_outcome(outcome: Outcome) -> u64
+fn pack_outcome(outcome: Result<(), Refusal>) -> u64
     ensures { result ≡ packed_outcome outcome }
 {
     match outcome {
-        Outcome::Done => pack(0, 0, 0),
-        Outcome::Refused(why) => pack_refusal(why),
+        Ok(()) => pack(0, 0, 0),
+        Err(why) => pack_refusal(why),
     }
 }
 
 // What the run answers under a budget.
-fn pack_rest(rest: Rest, budget: u16) -> u64
+fn pack_rest(rest: Result<Option<u16>, Refusal>, budget: u16) -> u64
     ensures { result ≡ packed_rest budget rest }
 {
     match rest {
-        Rest::Rested(k) => pack(0, k, 0),
-        Rest::Moving => pack(0, budget, 1),
-        Rest::Refused(why) => pack_refusal(why),
+        Ok(Some(k)) => pack(0, k, 0),
+        Ok(None) => pack(0, budget, 1),
+        Err(why) => pack_refusal(why),
     }
 }
 
 // What a question for the most steps to rest answers.
-fn pack_bound(bound: Figure) -> u64
+fn pack_bound(bound: Result<Option<u16>, Refusal>) -> u64
     ensures { result ≡ packed_bound bound }
 {
     match bound {
-        Figure::Within(k) => pack(0, k, 0),
-        Figure::Unknown => pack(0, 0, 1),
-        Figure::Refused(why) => pack_refusal(why),
+        Ok(Some(k)) => pack(0, k, 0),
+        Ok(None) => pack(0, 0, 1),
+        Err(why) => pack_refusal(why),
     }
 }
 
 // What the checker, and the move of a table, answers.
-fn pack_verdict(verdict: Verdict) -> u64
+fn pack_verdict(verdict: Result<u16, Refusal>) -> u64
     ensures { result ≡ packed_verdict verdict }
 {
     match verdict {
-        Verdict::Accepted(steps) => pack(0, steps, 0),
-        Verdict::Refused(why) => pack_refusal(why),
+        Ok(steps) => pack(0, steps, 0),
+        Err(why) => pack_refusal(why),
     }
 }
 

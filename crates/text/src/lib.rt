@@ -10,7 +10,7 @@ ghost use Rattle.output.specs.Output.{Put};
 ghost use Rattle.text.specs.Came.{came, MayCome, InRoom};
 
 use output::put;
-use rules::{Refusal, Verdict};
+use rules::{Refusal};
 use std::io::{Error, Read, Write};
 
 // What reading the input came to: a read failed, or there are so many bytes.
@@ -86,7 +86,7 @@ pub fn complain<E: Write>(errors: &mut E, text: &[u8]) {
 // Puts the line for a refusal behind the first `at` bytes of `out`, and answers the new end. No plan count shows in it.
 pub fn put_refusal(why: Refusal, out: &mut [u8], at: usize) -> usize
     requires { at + 71 ≤ length out.old }
-    ensures { Put 71 out.old at (line 0 (Verdict.Refused why)) out.new result }
+    ensures { Put 71 out.old at (line 0 (Err why)) out.new result }
 {
     let place = places::place(why);
     let at = put(b"refused ", out, at);

@@ -4,17 +4,17 @@ use Prim.Native.Nat.{ℕ, ◌+◌, ◌-◌, ◌*◌, ◌^◌}
 use mathlib.Core.Path.{◌≡◌, refl, subst}
 use mathlib.Core.List.{List, [], ◌∷◌, ◌++◌}
 use lib.ListN.{replicate}
-use Rattle.rules.specs.Answers.{◌and_then◌, refuse_if}
+use Rattle.rules.specs.Answers.{◌and_then◌, refuse_if, Done}
 use Rattle.rules.specs.declared.Refusal.TheVariants.{ValueRange, ManySamples, TimesOrder, NoInterval, NormalRange}
-use Rattle.rules.specs.declared.Outcome.TheVariants.{Done, Refused}
 use Rattle.time.specs.Annotations.{base, counted, none, annotation_of, annotation_in_range}
 use Rattle.time.specs.Patterns.{every, edge, in_order, samples_check, pattern_check, Judged, refused}
 use Rattle.time.specs.Normal.{normal, Normalised, value_range}
 use Rattle.time.specs.Search.{admitted, over, pass_to, goes_on, starts_from, can_be, answer, judgement_of}
 use Rattle.time.specs.declared.Judgement.{Judgement}
-use Rattle.time.specs.declared.Judgement.TheVariants.{Satisfied, Satisfiable, Neither, Refused as RefusedFor}
+use Rattle.time.specs.declared.Judgement.TheVariants.{Satisfied, Satisfiable, Neither, Err as RefusedFor}
 use Rattle.time.proofs.Histories.{judged}
 use Rattle.time.proofs.Possibles.{normalised_none, normalised_out, normalised_done}
+use Rattle.std.specs.Prelude.{Err}
 
 -- what the code's way comes to is permitted
 shown :
@@ -194,9 +194,9 @@ normal_forms :
     × Normalised (annotation none none 50 60 10 20 7) Done (annotation 30 50 50 60 10 20 7)
     × Normalised (annotation (less 5) none none none 3 none 0) Done (annotation (less 5) none (less 2) none 3 none 0)
     × Normalised (annotation (10 ^ 9) none none none 0 none (10 ^ 9)) Done (annotation (10 ^ 9) none (10 ^ 9) none 0 none (10 ^ 9))
-    × Normalised (annotation none 0 10 none 0 5 0) (Refused NoInterval) (annotation none 0 10 none 0 5 0)
-    × Normalised (annotation none none (less (10 ^ 9)) none 0 5 0) (Refused NormalRange) (annotation none none (less (10 ^ 9)) none 0 5 0)
-    × Normalised (annotation none none none none none none 0) (Refused ValueRange) (annotation none none none none none none 0)
+    × Normalised (annotation none 0 10 none 0 5 0) (Err NoInterval) (annotation none 0 10 none 0 5 0)
+    × Normalised (annotation none none (less (10 ^ 9)) none 0 5 0) (Err NormalRange) (annotation none none (less (10 ^ 9)) none 0 5 0)
+    × Normalised (annotation none none none none none none 0) (Err ValueRange) (annotation none none none none none none 0)
 unfolding normal annotation_in_range starts_from admitted
 normal_forms = (
   normalised_done (annotation 0 10 0 100 5 20 0) _ refl refl refl refl refl,

@@ -8,10 +8,8 @@ use mathlib.Core.List.{List}
 use lib.ListN.{length}
 use lib.Dec.{leb, ltb}
 use borrow.Author.Tests.{leb-true, ltb-true, lt-ltb, le-ltb, le-leb, lt-leb, not-false}
-use Rattle.rules.specs.Answers.{◌and_then◌, refuse_if}
+use Rattle.rules.specs.Answers.{◌and_then◌, refuse_if, Outcome, Done}
 use Rattle.rules.specs.declared.Refusal.TheVariants.{ValueRange, ManySamples, TimesOrder}
-use Rattle.rules.specs.declared.Outcome.{Outcome}
-use Rattle.rules.specs.declared.Outcome.TheVariants.{Done, Refused}
 use Rattle.rules.proofs.Outcomes.{first_done, then_done, if_done}
 use Rattle.time.specs.Annotations.{counted, annotation_of, in_range, annotation_in_range}
 use Rattle.time.specs.Patterns.{every, minute_at, truth_at, edge, speaks_of, true_at, in_order, Satisfied, samples_check, pattern_check, Judged, satisfied, satisfiable, neither}
@@ -24,6 +22,7 @@ use Rattle.time.proofs.Tests.{clash, first, second, both, every_at, every_is, ev
 use Rattle.time.proofs.Ranges.{near, near_all}
 use Rattle.time.proofs.Passes.{Passed, nothing_yet, sampled}
 use Rattle.time.proofs.Continued.{can_sound, can_complete}
+use Rattle.std.specs.Prelude.{Err}
 
 module _ (h : List ℕ) (asked : ℕ) where
   abbrev n : ℕ
@@ -170,15 +169,15 @@ module _ (h : List ℕ) (asked : ℕ) where
   abbrev pub minutes_in_range : Bool
   minutes_in_range = every (λ i. in_range (minute_at h i)) (length h)
 
-  pub refuses_range : minutes_in_range ≡ false → samples_check h asked ≡ Refused ValueRange
+  pub refuses_range : minutes_in_range ≡ false → samples_check h asked ≡ Err ValueRange
   unfolding samples_check ◌and_then◌ refuse_if
   refuses_range e = rw e
 
-  pub refuses_many : minutes_in_range ≡ true → 1024 < length h → samples_check h asked ≡ Refused ManySamples
+  pub refuses_many : minutes_in_range ≡ true → 1024 < length h → samples_check h asked ≡ Err ManySamples
   unfolding samples_check ◌and_then◌ refuse_if
   refuses_many e l = rw (e, lt-ltb 1024 (length h) l)
 
-  pub refuses_order : minutes_in_range ≡ true → length h ≤ 1024 → in_order h asked ≡ false → samples_check h asked ≡ Refused TimesOrder
+  pub refuses_order : minutes_in_range ≡ true → length h ≤ 1024 → in_order h asked ≡ false → samples_check h asked ≡ Err TimesOrder
   unfolding samples_check ◌and_then◌ refuse_if
   refuses_order e l o = rw (e, le-ltb 1024 (length h) l, o)
 
@@ -187,7 +186,7 @@ module _ (h : List ℕ) (asked : ℕ) where
   passes e l o = rw (e, le-ltb 1024 (length h) l, o)
 
   module _ (a : Annotation) where
-    pub refuses_first : (annotation_in_range a && in_range asked) ≡ false → pattern_check a h asked ≡ Refused ValueRange
+    pub refuses_first : (annotation_in_range a && in_range asked) ≡ false → pattern_check a h asked ≡ Err ValueRange
     unfolding pattern_check ◌and_then◌ refuse_if
     refuses_first e = rw e
 

@@ -6,7 +6,6 @@ use mathlib.Core.Path.{◌≡◌, sym, ap, subst, ◌∙◌}
 use mathlib.Core.Bool.{true, false}
 use mathlib.Core.List.{List}
 use Rattle.rules.specs.declared.Refusal.TheVariants.{NoInterval, NormalRange}
-use Rattle.rules.specs.declared.Outcome.TheVariants.{Done, Refused}
 use Rattle.time.specs.Annotations.{base, annotation_of, annotation_in_range, NotSooner, NotLater, NotLonger, Admits}
 use Rattle.time.specs.Normal.{normal, Possible, numbers_of, Normalised, no_interval, normal_range, done}
 use Rattle.time.specs.Search.{low, high, window_to, far, window, finish, soonest, starts_from, NearBound, NearAll}
@@ -28,6 +27,8 @@ use Rattle.time.proofs.Windows.{
   finish_small,
   nearer,
 }
+use Rattle.std.specs.Prelude.{Err}
+use Rattle.rules.specs.Answers.{Done}
 
 -- an interval that starts before place 0 of the line that has the reference point at base: no bound holds it back, so one starts at 0
 module _ (o r t1 t2 k : ℕ) (under : t1 + (base + base) < r + o) (small : k ≤ 5000000000) (long : t1 + k ≤ t2 + base) (low' : base ≤ k)
@@ -159,7 +160,7 @@ module _ (l : List ℕ) (a : Annotation) (read : a ≡ annotation_of l) (ranged 
   of_it : annotation_in_range (annotation_of l) ≡ true
   of_it = subst (λ (x : Annotation). annotation_in_range x ≡ true) read ranged
 
-  pub normalised_none : starts_from (window a base) 0 ≡ false → Normalised l (Refused NoInterval) l
+  pub normalised_none : starts_from (window a base) 0 ≡ false → Normalised l (Err NoInterval) l
   normalised_none fails = no_interval of_it (λ y. none (subst Possible (sym read) y))
     where
       none : Possible a → ⊥
@@ -169,7 +170,7 @@ module _ (l : List ℕ) (a : Annotation) (read : a ≡ annotation_of l) (ranged 
     some : Possible (annotation_of l)
     some = subst Possible read (possible_sound a (near_all a ranged) starts)
 
-    pub normalised_out : annotation_in_range (normal a) ≡ false → Normalised l (Refused NormalRange) l
+    pub normalised_out : annotation_in_range (normal a) ≡ false → Normalised l (Err NormalRange) l
     normalised_out out = normal_range of_it some (subst (λ (x : Annotation). annotation_in_range (normal x) ≡ false) read out)
 
     pub normalised_done :

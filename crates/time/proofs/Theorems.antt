@@ -6,7 +6,6 @@ use mathlib.Core.Path.{◌≡◌, refl, sym, ◌∙◌, ap, subst}
 use mathlib.Core.Bool.{true}
 use mathlib.Core.List.{List}
 use borrow.Author.Tests.{ne_eqb}
-use Rattle.rules.specs.declared.Outcome.TheVariants.{Done}
 use Rattle.time.specs.Annotations.{counted, none, bound_of, annotation_of, annotation_in_range, Admits}
 use Rattle.time.specs.Patterns.{true_at, in_order, Satisfied, Satisfiable}
 use Rattle.time.specs.Normal.{normal, Possible, plain, number_of, numbers_of, Normalised, done}
@@ -18,6 +17,7 @@ use Rattle.time.proofs.Ranges.{near_all}
 use Rattle.time.proofs.Continued.{still_satisfiable}
 use Rattle.time.proofs.Histories.{silent}
 use Rattle.time.proofs.Normals.{normal_admits, admits_normal, normal_again}
+use Rattle.rules.specs.Answers.{Done}
 
 pub satisfied_is_satisfiable :
     (a : Annotation) (h : List ℕ) (asked : ℕ) → in_order h asked ≡ true → Satisfied a (true_at h asked)

@@ -8,8 +8,6 @@ use mathlib.Core.Logic.{◌⊎◌, inl, inr}
 use mathlib.Core.Bool.{Bool, false}
 use mathlib.Core.List.{List}
 use Rattle.rules.specs.declared.Refusal.{Refusal}
-use Rattle.rules.specs.declared.Outcome.{Outcome}
-use Rattle.rules.specs.declared.Outcome.TheVariants.{Done, Refused}
 use Rattle.rules.proofs.Outcomes.{refused_not_done}
 use Rattle.time.specs.Annotations.{base, counted, annotation_of, Exactly, NotLater}
 use Rattle.time.specs.Patterns.{
@@ -32,6 +30,8 @@ use Rattle.time.specs.declared.Judgement.TheVariants as judgement
 use Rattle.time.proofs.Tests.{clash}
 use Rattle.time.proofs.Histories.{order}
 use Rattle.time.proofs.Theorems.{satisfied_is_satisfiable}
+use Rattle.std.specs.Prelude.{Err}
+use Rattle.rules.specs.Answers.{Outcome, Done}
 
 -- a finish at the bound is the last that is possible
 last_at : (r : ℕ) (x : Bound) (t u : ℕ) → Exactly base r x t → NotLater base r x u → u ≤ t
@@ -53,10 +53,10 @@ one_finish a τ t1 t2 u2 x y =
     let q = no_longer a τ t1 u2 t2 y x in
     omega arith
 
-done_or_refused : {A : Type 0} {o : Outcome} {why : Refusal} → o ≡ Done → o ≡ Refused why → A
+done_or_refused : {A : Type 0} {o : Outcome} {why : Refusal} → o ≡ Done → o ≡ Err why → A
 done_or_refused {A} {o} {why} d e = refused_not_done why (sym e ∙ d)
 
-same_reason : {o : Outcome} {why why' : Refusal} → o ≡ Refused why → o ≡ Refused why' → why ≡ why'
+same_reason : {o : Outcome} {why why' : Refusal} → o ≡ Err why → o ≡ Err why' → why ≡ why'
 same_reason d e = cc
 
 module _ (l h : List ℕ) (z : ℕ) where

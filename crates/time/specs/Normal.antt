@@ -1,12 +1,11 @@
 -- Document 001's six formulas for the normal form of an annotation, and what normalising answers and leaves. Assumes nothing.
-use Rattle.std.specs.Prelude.{ℕ, ◌+◌, ◌-◌, ◌%◌, ◌^◌, max, min, ◌≡◌, true, false, List, [], ◌∷◌}
+use Rattle.std.specs.Prelude.{ℕ, ◌+◌, ◌-◌, ◌%◌, ◌^◌, max, min, ◌≡◌, true, false, List, [], ◌∷◌, Err}
 use Rattle.rules.specs.declared.Refusal.TheVariants.{ValueRange, NoInterval, NormalRange}
-use Rattle.rules.specs.declared.Outcome.{Outcome}
-use Rattle.rules.specs.declared.Outcome.TheVariants.{Done, Refused}
 use Rattle.time.specs.Annotations.{base, none, annotation_of, annotation_in_range, Admits}
 use Rattle.time.specs.declared.Bound.{Bound}
 use Rattle.time.specs.declared.Bound.TheVariants.{Open, At}
 use Rattle.time.specs.declared.Annotation.{Annotation}
+use Rattle.rules.specs.Answers.{Outcome, Done}
 
 -- The formulas' max, min, - and +. An open bound is infinite: of a start's or finish's earliest minute downward, of all others upward, so
 -- that a sum or difference is open as soon as one side is.
@@ -76,11 +75,11 @@ numbers_of a =
 
 -- What normalising answers of the seven numbers l, and what it leaves of them: 18, 21, 26 with nothing changed, or the normal form.
 pub data Normalised (l : List ℕ) : Outcome → List ℕ → Type 0 where
-  value_range : annotation_in_range (annotation_of l) ≡ false → Normalised l (Refused ValueRange) l
-  no_interval : annotation_in_range (annotation_of l) ≡ true → (Possible (annotation_of l) → ⊥) → Normalised l (Refused NoInterval) l
+  value_range : annotation_in_range (annotation_of l) ≡ false → Normalised l (Err ValueRange) l
+  no_interval : annotation_in_range (annotation_of l) ≡ true → (Possible (annotation_of l) → ⊥) → Normalised l (Err NoInterval) l
   normal_range :
       annotation_in_range (annotation_of l) ≡ true → Possible (annotation_of l) → annotation_in_range (normal (annotation_of l)) ≡ false
-      → Normalised l (Refused NormalRange) l
+      → Normalised l (Err NormalRange) l
   done :
       annotation_in_range (annotation_of l) ≡ true → Possible (annotation_of l) → annotation_in_range (normal (annotation_of l)) ≡ true
       → Normalised l Done (numbers_of (normal (annotation_of l)))

@@ -1,12 +1,10 @@
 -- Document 003, section 13.2, and document 02 (iii): histories, when a pattern is satisfied and when it still can be, and what a question
 -- is answered. Assumes nothing.
-use Rattle.std.specs.Prelude.{ℕ, zero, suc, ◌+◌, ◌/◌, ◌%◌, ◌^◌, ◌≤◌, ◌<◌, ◌≡◌, ◌⊎◌, Bool, true, false, cond, not, ◌&&◌, List, length, get_or, eqb, leb}
+use Rattle.std.specs.Prelude.{ℕ, zero, suc, ◌+◌, ◌/◌, ◌%◌, ◌^◌, ◌≤◌, ◌<◌, ◌≡◌, ◌⊎◌, Bool, true, false, cond, not, ◌&&◌, List, length, get_or, eqb, leb, Err}
 use Rattle.std.proofs.Math.Dec.{ltb}
-use Rattle.rules.specs.Answers.{◌and_then◌, refuse_if}
+use Rattle.rules.specs.Answers.{◌and_then◌, refuse_if, Outcome, Done}
 use Rattle.rules.specs.declared.Refusal.{Refusal}
 use Rattle.rules.specs.declared.Refusal.TheVariants.{ValueRange, ManySamples, TimesOrder}
-use Rattle.rules.specs.declared.Outcome.{Outcome}
-use Rattle.rules.specs.declared.Outcome.TheVariants.{Done, Refused}
 use Rattle.time.specs.Annotations.{base, counted, annotation_of, in_range, annotation_in_range, Exactly, Admits}
 use Rattle.time.specs.declared.Annotation.{Annotation}
 use Rattle.time.specs.declared.Judgement.{Judgement}
@@ -98,7 +96,7 @@ module _ (l h : List ℕ) (z : ℕ) where
   τ = true_at h (counted z)
 
   pub data Judged : Judgement → Type 0 where
-    refused : {why : Refusal} → the_check ≡ Refused why → Judged (judgement.Refused why)
+    refused : {why : Refusal} → the_check ≡ Err why → Judged (judgement.Refused why)
     -- with the earliest interval that satisfies
     satisfied :
         (t1 t2 : ℕ) → the_check ≡ Done → Satisfies (annotation_of l) τ t1 t2

@@ -17,7 +17,7 @@
 ghost use Rattle.std.specs.Prelude.{◌≡◌, ◌≤◌, ◌<◌, length};
 ghost use Rattle.io.specs.Counts.{IsPrefixLen};
 
-use rules::{Figure, Outcome, Refusal, Rest, Verdict};
+use rules::{Refusal};
 use std::io::{Print, Read};
 
 fn main(rt: HostRuntime) {
@@ -364,47 +364,47 @@ fn print_number<P: Print>(rt: &P, x: u64) {
     print(rt, &digits[..k]);
 }
 
-fn print_verdict<P: Print>(rt: &P, v: Verdict) {
+fn print_verdict<P: Print>(rt: &P, v: Result<u16, Refusal>) {
     print_answer(rt, v);
     end_line(rt);
 }
 
-fn print_answer<P: Print>(rt: &P, v: Verdict) {
+fn print_answer<P: Print>(rt: &P, v: Result<u16, Refusal>) {
     match v {
-        Verdict::Accepted(n) => {
+        Ok(n) => {
             print(rt, b"accepted");
             print_number(rt, n as u64);
         }
-        Verdict::Refused(why) => print_refusal(rt, why),
+        Err(why) => print_refusal(rt, why),
     }
 }
 
-fn print_outcome<P: Print>(rt: &P, o: Outcome) {
+fn print_outcome<P: Print>(rt: &P, o: Result<(), Refusal>) {
     match o {
-        Outcome::Done => print(rt, b"done"),
-        Outcome::Refused(why) => print_refusal(rt, why),
+        Ok(()) => print(rt, b"done"),
+        Err(why) => print_refusal(rt, why),
     }
 }
 
-fn print_rest<P: Print>(rt: &P, r: Rest) {
+fn print_rest<P: Print>(rt: &P, r: Result<Option<u16>, Refusal>) {
     match r {
-        Rest::Rested(k) => {
+        Ok(Some(k)) => {
             print(rt, b"rested");
             print_number(rt, k as u64);
         }
-        Rest::Moving => print(rt, b"moving"),
-        Rest::Refused(why) => print_refusal(rt, why),
+        Ok(None) => print(rt, b"moving"),
+        Err(why) => print_refusal(rt, why),
     }
 }
 
-fn print_bound<P: Print>(rt: &P, b: Figure) {
+fn print_bound<P: Print>(rt: &P, b: Result<Option<u16>, Refusal>) {
     match b {
-        Figure::Within(k) => {
+        Ok(Some(k)) => {
             print(rt, b"within");
             print_number(rt, k as u64);
         }
-        Figure::Unknown => print(rt, b"unknown"),
-        Figure::Refused(why) => print_refusal(rt, why),
+        Ok(None) => print(rt, b"unknown"),
+        Err(why) => print_refusal(rt, why),
     }
 }
 

@@ -9,13 +9,9 @@ use lib.Seq.{take-append_seam}
 use borrow.Author.Tests.{lt-ltb, le-ltb, ne_eqb, eqb-true, not-false}
 use Rattle.rules.specs.Table.{version, plan_count}
 use Rattle.rules.specs.WaitFor.{first_version, node_count}
-use Rattle.rules.specs.Answers.{◌and_then◌, table_check}
+use Rattle.rules.specs.Answers.{◌and_then◌, table_check, Outcome, Verdict, Done}
 use Rattle.rules.specs.declared.Refusal.{Refusal}
 use Rattle.rules.specs.declared.Refusal.TheVariants.{OutputShort}
-use Rattle.rules.specs.declared.Outcome.{Outcome}
-use Rattle.rules.specs.declared.Outcome.TheVariants.{Done, Refused}
-use Rattle.rules.specs.declared.Verdict.{Verdict}
-use Rattle.rules.specs.declared.Verdict.TheVariants as verdict
 use Rattle.rules.proofs.Outcomes.{first_done, then_done, if_done, pass_last, stop_last}
 use Rattle.rules.proofs.Tree.{passes, tree}
 use Rattle.formulas.proofs.Formed.{second_size, plans_within}
@@ -23,30 +19,31 @@ use Rattle.output.specs.Output.{Appended}
 use Rattle.output.proofs.Pieces.{whole}
 use Rattle.versions.specs.Room.{HasPlans, HasNodes}
 use Rattle.versions.specs.Versions.{version_check, check_from, check_to1, room_check, move_answer, move_output}
+use Rattle.std.specs.Prelude.{Ok, Err}
 
 -- the checks before 24 refuse
 pub refused :
-    (check : Outcome) (why : Refusal) (written output : List ℕ) → check ≡ Refused why
-    → (verdict.Refused why ≡ move_answer check written output) × (output ≡ move_output check written output)
+    (check : Outcome) (why : Refusal) (written output : List ℕ) → check ≡ Err why
+    → (Err why ≡ move_answer check written output) × (output ≡ move_output check written output)
 unfolding move_answer move_output ◌and_then◌
 refused check why written output e = (rw (e, move_answer) refl, rw (e, move_output) refl)
 
 -- 24 does
 pub no_room :
     (written output : List ℕ) → length output < length written
-    → (verdict.Refused OutputShort ≡ move_answer Done written output) × (output ≡ move_output Done written output)
+    → (Err OutputShort ≡ move_answer Done written output) × (output ≡ move_output Done written output)
 unfolding move_answer move_output room_check ◌and_then◌
 no_room written output short = let e = stop_last _ OutputShort (lt-ltb _ _ short) in (rw (e, move_answer) refl, rw (e, move_output) refl)
 
 -- none does, and all is written
 pub moved :
     (written output after : List ℕ) (end : ℕ) → length written ≤ length output → Appended output 0 written after end
-    → (verdict.Accepted end ≡ move_answer Done written output) × (after ≡ move_output Done written output)
+    → (Ok end ≡ move_answer Done written output) × (after ≡ move_output Done written output)
 unfolding move_answer move_output room_check ◌and_then◌
 moved written output after end room put =
     let e = pass_last _ OutputShort (le-ltb _ _ room) in
     let place : end ≡ length written = omega (arith, put.place) in
-    (rw (e, move_answer) (ap verdict.Accepted place), rw (e, move_output) (whole put ∙ ap (λ (k : ℕ). written ++ drop k output) place))
+    (rw (e, move_answer) (ap Ok place), rw (e, move_output) (whole put ∙ ap (λ (k : ℕ). written ++ drop k output) place))
 
 -- of the same checks and the same table it is the same
 pub same_move :
@@ -88,33 +85,33 @@ module _ (check : Outcome) (written output : List ℕ) where
   checks = check and_then room_check written output
 
   -- done: all have passed, and so many bytes are written
-  answer_done : checks ≡ Done → move_answer check written output ≡ verdict.Accepted (length written)
+  answer_done : checks ≡ Done → move_answer check written output ≡ Ok (length written)
   unfolding move_answer
   answer_done e = rw (e, move_answer) refl
 
-  answer_refused : (why : Refusal) → checks ≡ Refused why → move_answer check written output ≡ verdict.Refused why
+  answer_refused : (why : Refusal) → checks ≡ Err why → move_answer check written output ≡ Err why
   unfolding move_answer
   answer_refused why e = rw (e, move_answer) refl
 
-  pub was_moved : (k : ℕ) → verdict.Accepted k ≡ move_answer check written output → (checks ≡ Done) × (k ≡ length written)
+  pub was_moved : (k : ℕ) → Ok k ≡ move_answer check written output → (checks ≡ Done) × (k ≡ length written)
   was_moved k told = go checks refl
     where
       go : (o : Outcome) → checks ≡ o → (checks ≡ Done) × (k ≡ length written)
-      go Done e = let same = told ∙ answer_done e in (e, cc)
-      go (Refused why) e =
+      go (Ok tt) e = let same = told ∙ answer_done e in (e, cc)
+      go (Err why) e =
           let other = told ∙ answer_refused why e in
           let z : ◌≡◌ {A = ℕ} 0 1 = cc in
           absurd (omega arith)
 
-  pub was_refused : (why : Refusal) → verdict.Refused why ≡ move_answer check written output → checks ≡ Refused why
+  pub was_refused : (why : Refusal) → Err why ≡ move_answer check written output → checks ≡ Err why
   was_refused why told = go checks refl
     where
-      go : (o : Outcome) → checks ≡ o → checks ≡ Refused why
-      go Done e =
+      go : (o : Outcome) → checks ≡ o → checks ≡ Err why
+      go (Ok tt) e =
           let other = told ∙ answer_done e in
           let z : ◌≡◌ {A = ℕ} 0 1 = cc in
           absurd (omega arith)
-      go (Refused which) e = let same = told ∙ answer_refused which e in e ∙ cc
+      go (Err which) e = let same = told ∙ answer_refused which e in e ∙ cc
 
   -- what was written stands at the start
   pub written_first : checks ≡ Done → take (length written) (move_output check written output) ≡ written

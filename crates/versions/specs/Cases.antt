@@ -1,36 +1,11 @@
 -- Rows that show the definitions of document 02 (vi): whole calls of both moves on small tables, the answer and every byte that is left,
 -- and which tables stand in plan order; one list, and one theorem that all its rows hold. Assumes nothing.
-use Rattle.std.specs.Prelude.{ℕ, zero, suc, ◌+◌, Bool, true, false, not, ◌&&◌, ◌≡◌, refl, List, [], ◌∷◌, ◌++◌, take, drop, eqb}
+use Rattle.std.specs.Prelude.{ℕ, zero, suc, ◌+◌, Bool, true, false, not, ◌&&◌, ◌≡◌, refl, List, [], ◌∷◌, ◌++◌, take, drop, eqb, Ok, Err}
 use Rattle.rules.specs.Lists.{same, least_from, some_below, highest}
 use Rattle.rules.specs.Table.{children_before, children, rank, is_or_is_above}
 use Rattle.rules.specs.WaitFor.{first_nodes, asked_nodes, uses, owner_within, owner}
-use Rattle.rules.specs.Answers.{
-  placed,
-  place,
-  ◌and_then◌,
-  refuse_if,
-  refuse_at,
-  unrooted,
-  bad_parent,
-  undefined_entry,
-  unfit_entry,
-  undefined_byte,
-  unfit,
-  too_many,
-  stray_first,
-  bad_bytes,
-  bad_node,
-  bad_rank,
-  formulas_check,
-  asks_too_many,
-  bad_wait,
-  header_check,
-  plans_check,
-  table_check,
-}
+use Rattle.rules.specs.Answers.{placed, place, ◌and_then◌, refuse_if, refuse_at, unrooted, bad_parent, undefined_entry, unfit_entry, undefined_byte, unfit, too_many, stray_first, bad_bytes, bad_node, bad_rank, formulas_check, asks_too_many, bad_wait, header_check, plans_check, table_check, Verdict}
 use Rattle.rules.specs.declared.Place.{Place}
-use Rattle.rules.specs.declared.Verdict.{Verdict}
-use Rattle.rules.specs.declared.Verdict.TheVariants as verdict
 use Rattle.versions.specs.Versions.{
   header_as,
   plans_as,
@@ -137,8 +112,8 @@ pub data Row : Type 0 where
   row_header : List ℕ → ℕ → List ℕ → Row
 
 told : Verdict → Place
-told (verdict.Accepted k) = placed 0 k 0
-told (verdict.Refused why) = place why
+told (Ok k) = placed 0 k 0
+told (Err why) = place why
 
 -- a call of a move answers this number, step and plan, and leaves these bytes
 calls : ℕ → List ℕ → ℕ → ℕ → ℕ → ℕ → List ℕ → Bool

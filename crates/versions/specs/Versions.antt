@@ -1,19 +1,15 @@
 -- Document 02 (vi): a table of version 1 as one of version 2, and back; the checks of a move, what it answers and what it leaves. Assumes
 -- nothing.
 use Prim.Native.Nat.{ℕ, zero, suc, ◌+◌, ◌*◌, ◌/◌, ◌%◌}
-use Rattle.std.specs.Prelude.{Bool, cond, ◌&&◌, List, [], ◌∷◌, ◌++◌, length, take, drop, eqb, ltb}
+use Rattle.std.specs.Prelude.{Bool, cond, ◌&&◌, List, [], ◌∷◌, ◌++◌, length, take, drop, eqb, ltb, Ok, Err}
 use Rattle.std.proofs.Math.Bool.{not}
 use Rattle.std.proofs.Math.Dec.{leb}
 use Rattle.rules.specs.Lists.{some_below}
 use Rattle.rules.specs.Bytes.{text}
 use Rattle.rules.specs.Table.{version, plan_count, entry}
 use Rattle.rules.specs.WaitFor.{node_count, node, is_leaf}
-use Rattle.rules.specs.Answers.{◌and_then◌, refuse_if, wrong_mark, table_check}
+use Rattle.rules.specs.Answers.{◌and_then◌, refuse_if, wrong_mark, table_check, Outcome, Verdict}
 use Rattle.rules.specs.declared.Refusal.TheVariants.{TableShort, TableMark, TableVersion, NodeKind, OutputShort}
-use Rattle.rules.specs.declared.Outcome.{Outcome}
-use Rattle.rules.specs.declared.Outcome.TheVariants.{Done, Refused}
-use Rattle.rules.specs.declared.Verdict.{Verdict}
-use Rattle.rules.specs.declared.Verdict.TheVariants as verdict
 
 module _ (t : List ℕ) where
   -- the header of t with another version
@@ -101,10 +97,10 @@ room_check written output = refuse_if (ltb (length output) (length written)) Out
 unfoldable pub move_answer : Outcome → List ℕ → List ℕ → Verdict
 unfolding room_check
 move_answer check written output =
-    elim (check and_then room_check written output) [ Done ↦ verdict.Accepted (length written) | Refused why ↦ verdict.Refused why ]
+    elim (check and_then room_check written output) [ Ok tt ↦ Ok (length written) | Err why ↦ Err why ]
 
 -- What it leaves in the output: bytes past the result stay as they were, and on a refusal all do.
 unfoldable pub move_output : Outcome → List ℕ → List ℕ → List ℕ
 unfolding room_check
 move_output check written output =
-    elim (check and_then room_check written output) [ Done ↦ written ++ drop (length written) output | Refused why ↦ output ]
+    elim (check and_then room_check written output) [ Ok tt ↦ written ++ drop (length written) output | Err why ↦ output ]

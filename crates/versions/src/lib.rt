@@ -14,82 +14,82 @@ ghost use Rattle.versions.specs.Versions.{move_answer, move_output};
 
 use output::{put, put_byte};
 use reading::{byte_at, entry_at, is_leaf, node_at, node_count, plan_count, u16_at};
-use rules::{Outcome, Refusal, Verdict};
+use rules::{Refusal};
 use table::{check_table, has_mark};
 
 // Puts a table of version 1, as one of version 2, at the start of the output, and answers how many bytes it has; or a refusal that changes
 // none of them.
-pub fn to_version_2(table: &[u8], output: &mut [u8]) -> Verdict
+pub fn to_version_2(table: &[u8], output: &mut [u8]) -> Result<u16, Refusal>
     ensures answer { result ≡ move_answer (check_to2 table.now) (in_version2 table.now) output.old }
     ensures left { output.new
         ≡ move_output (check_to2 table.now) (in_version2 table.now) output.old }
 {
     match check_from(1, table) {
-        Outcome::Refused(why) => Verdict::Refused(why),
-        Outcome::Done => move_to_2(table, plan_count(table), output),
+        Err(why) => Err(why),
+        Ok(()) => move_to_2(table, plan_count(table), output),
     }
 }
 
 // The same from version 2 to 1.
-pub fn to_version_1(table: &[u8], output: &mut [u8]) -> Verdict
+pub fn to_version_1(table: &[u8], output: &mut [u8]) -> Result<u16, Refusal>
     ensures answer { result ≡ move_answer (check_to1 table.now) (in_version1 table.now) output.old }
     ensures left { output.new
         ≡ move_output (check_to1 table.now) (in_version1 table.now) output.old }
 {
     match check_to_1(table) {
-        Outcome::Refused(why) => Verdict::Refused(why),
-        Outcome::Done => move_to_1(table, plan_count(table), output),
+        Err(why) => Err(why),
+        Ok(()) => move_to_1(table, plan_count(table), output),
     }
 }
 
 // Checks 1 and 2, and 3 of a table that is not of the version moved from.
-fn version_check(from: u16, table: &[u8]) -> Outcome
+fn version_check(from: u16, table: &[u8]) -> Result<(), Refusal>
     ensures { result ≡ version_check table.now from }
 {
     if table.len() < 8 {
-        return Outcome::Refused(Refusal::TableShort);
+        return Err(Refusal::TableShort);
     }
     if !has_mark(table, b'T') {
-        return Outcome::Refused(Refusal::TableMark);
+        return Err(Refusal::TableMark);
     }
     if u16_at(table, 3) != from {
-        return Outcome::Refused(Refusal::TableVersion);
+        return Err(Refusal::TableVersion);
     }
-    Outcome::Done
+    Ok(())
 }
 
 // Checks 1 to 9 and 22 of a table that is moved from a version.
-fn check_from(from: u16, table: &[u8]) -> Outcome
+fn check_from(from: u16, table: &[u8]) -> Result<(), Refusal>
     ensures { result ≡ check_from table.now from }
 {
     match version_check(from, table) {
-        Outcome::Refused(why) => Outcome::Refused(why),
-        Outcome::Done => match check_table(table) {
-            Verdict::Refused(why) => Outcome::Refused(why),
-            Verdict::Accepted(_) => Outcome::Done,
+        Err(why) => Err(why),
+        Ok(()) => match check_table(table) {
+            Err(why) => Err(why),
+            Ok(_) => Ok(()),
         },
     }
 }
 
 // The checks of a table that is moved to version 1: 23 is the last.
-fn check_to_1(table: &[u8]) -> Outcome
+fn check_to_1(table: &[u8]) -> Result<(), Refusal>
     ensures { result ≡ check_to1 table.now }
 {
     match check_from(2, table) {
-        Outcome::Refused(why) => Outcome::Refused(why),
-        Outcome::Done => kinds_check(table),
+        Err(why) => Err(why),
+        Ok(()) => kinds_check(table),
     }
 }
 
 // Check 23 of a table of version 2 that passes.
-fn kinds_check(table: &[u8]) -> Outcome
+fn kinds_check(table: &[u8]) -> Result<(), Refusal>
     requires { HasNodes table.now (node_count table.now) }
     ensures { result ≡ refuse_if (other_kind table.now) Refusal.NodeKind }
 {
     if has_other_kind(table, node_count(table)) {
-        return Outcome::Refused(Refusal::NodeKind);
+        return Err(Refusal::NodeKind);
     }
-    Outcome::Done
+    Ok(())
 }
 
 // Whether some of the first k nodes is of another kind than 5.
@@ -108,16 +108,16 @@ fn has_other_kind(table: &[u8], k: usize) -> bool
 }
 
 // Check 24, and the table of n plans in version 2.
-fn move_to_2(table: &[u8], n: usize, output: &mut [u8]) -> Verdict
+fn move_to_2(table: &[u8], n: usize, output: &mut [u8]) -> Result<u16, Refusal>
     requires { HasPlans table.now n }
-    ensures answer { result ≡ move_answer Outcome.Done (in_version2 table.now) output.old }
-    ensures left { output.new ≡ move_output Outcome.Done (in_version2 table.now) output.old }
+    ensures answer { result ≡ move_answer Done (in_version2 table.now) output.old }
+    ensures left { output.new ≡ move_output Done (in_version2 table.now) output.old }
 {
     let nodes = count_nodes(table, n);
     if output.len() < 10 + 8 * n + 4 * nodes {
-        return Verdict::Refused(Refusal::OutputShort);
+        return Err(Refusal::OutputShort);
     }
-    Verdict::Accepted(write_2(table, n, nodes, output) as u16)
+    Ok(write_2(table, n, nodes, output) as u16)
 }
 
 // The table of n plans in version 2, with so many nodes.
@@ -133,15 +133,15 @@ fn write_2(table: &[u8], n: usize, nodes: usize, output: &mut [u8]) -> usize
 }
 
 // Check 24, and the table of n plans in version 1.
-fn move_to_1(table: &[u8], n: usize, output: &mut [u8]) -> Verdict
+fn move_to_1(table: &[u8], n: usize, output: &mut [u8]) -> Result<u16, Refusal>
     requires { HasPlans table.now n }
-    ensures answer { result ≡ move_answer Outcome.Done (in_version1 table.now) output.old }
-    ensures left { output.new ≡ move_output Outcome.Done (in_version1 table.now) output.old }
+    ensures answer { result ≡ move_answer Done (in_version1 table.now) output.old }
+    ensures left { output.new ≡ move_output Done (in_version1 table.now) output.old }
 {
     if output.len() < 8 + 8 * n {
-        return Verdict::Refused(Refusal::OutputShort);
+        return Err(Refusal::OutputShort);
     }
-    Verdict::Accepted(write_1(table, n, output) as u16)
+    Ok(write_1(table, n, output) as u16)
 }
 
 // The table of n plans in version 1.

@@ -1,10 +1,10 @@
 -- `judge` meets its contract: what it answers is permitted. Assumes nothing.
 use Rattle.std.proofs.Common.{◌≡◌, sym, ◌∙◌}
-use Rattle.rules.specs.declared.Outcome.TheVariants.{Done}
 use Rattle.time.specs.Annotations.{counted, annotation_of}
 use Rattle.time.specs.Patterns.{pattern_check, refused}
 use Rattle.time.proofs.Histories.{nears, asked_near, judged}
 use Rattle.pattern.proofs.judge.Goals as goal
+use Rattle.rules.specs.Answers.{Done}
 
 pub judged-requires : goal.judged-requires
 judged-requires c =

@@ -4,8 +4,7 @@ use native.Mathlib.Nat.{mul-le-mul_right}
 use borrow.Author.Tests.{le-ltb}
 use lib.ListN.{replicate, length-replicate, get_or-replicate}
 use Rattle.rules.specs.Table.{plan_count}
-use Rattle.rules.specs.Answers.{header_check}
-use Rattle.rules.specs.declared.Outcome.TheVariants.{Done}
+use Rattle.rules.specs.Answers.{header_check, Done}
 use Rattle.rules.proofs.Tree.{header}
 use Rattle.table.specs.Facts.{RoomFor, FactsRoom}
 use Rattle.step.specs.WorkSpace.{RoomToStep}
