@@ -33,7 +33,7 @@ pub fn entry_at(table: &[u8], p: usize) -> PlanEntry
 pub fn is_leaf(e: PlanEntry) -> bool
     ensures { result ≡ is_body Leaf (body_of e) }
 {
-    (e.body_kind() == Body::Leaf)
+    e.body_kind() == Body::Leaf
 }
 
 // The number of plan p's parent, in a table that has plan p.
@@ -41,7 +41,7 @@ pub fn parent_at(table: &[u8], p: usize) -> usize
     requires { 8 * p + 16 ≤ length table.now }
     ensures { result ≡ parent table.now p }
 {
-    u16_at(table, 8 + 8 * p) as usize
+    usize::from(u16_at(table, 8 + 8 * p))
 }
 
 // The input word of plan p among words that have one.
@@ -65,7 +65,7 @@ pub fn plan_count(table: &[u8]) -> usize
     requires { 8 ≤ length table.now }
     ensures { result ≡ plan_count table.now }
 {
-    u16_at(table, 5) as usize
+    usize::from(u16_at(table, 5))
 }
 
 // The number of nodes of a table that has its plans and that number.
@@ -73,7 +73,7 @@ pub fn node_count(table: &[u8]) -> usize
     requires { 8 * plan_count table.now + 10 ≤ length table.now }
     ensures { result ≡ node_count table.now }
 {
-    u16_at(table, 8 + 8 * plan_count(table)) as usize
+    usize::from(u16_at(table, 8 + 8 * plan_count(table)))
 }
 
 // Node i of a table that has one.
@@ -95,7 +95,7 @@ pub fn u16_at(s: &[u8], i: usize) -> u16
     requires { i + 2 ≤ length s.now }
     ensures { result ≡ u16_at s.now i }
 {
-    wide(s[i]) + 256 * wide(s[i + 1])
+    u16::from(s[i]) + 256 * u16::from(s[i + 1])
 }
 
 // The 32-bit number at a place of a slice.
@@ -103,7 +103,7 @@ pub fn u32_at(s: &[u8], i: usize) -> u32
     requires { i + 4 ≤ length s.now }
     ensures { result ≡ u32_at s.now i }
 {
-    u16_at(s, i) as u32 + 65536 * (u16_at(s, i + 2) as u32)
+    u32::from(u16_at(s, i)) + 65536 * u32::from(u16_at(s, i + 2))
 }
 
 // A byte of a slice, or 0 past its end.
@@ -118,12 +118,5 @@ pub fn u16_within(s: &[u8], i: usize) -> u16
     requires { i < 65536 }
     ensures { result ≡ u16_at s.now i }
 {
-    wide(byte_at(s, i)) + 256 * wide(byte_at(s, i + 1))
-}
-
-// A byte as a wider number: named, so that a reader of it has its bound.
-fn wide(x: u8) -> u16
-    ensures { (result ≡ x) × (result < 256) }
-{
-    x as u16
+    u16::from(byte_at(s, i)) + 256 * u16::from(byte_at(s, i + 1))
 }
