@@ -22,7 +22,7 @@ use Rattle.time.proofs.Tests.{clash, first, second, both, every_at, every_is, ev
 use Rattle.time.proofs.Ranges.{near, near_all}
 use Rattle.time.proofs.Passes.{Passed, nothing_yet, sampled}
 use Rattle.time.proofs.Continued.{can_sound, can_complete}
-use Rattle.std.specs.Prelude.{Err}
+use Rattle.std.specs.Prelude.{Ok, Err}
 
 module _ (h : List ℕ) (asked : ℕ) where
   abbrev n : ℕ
@@ -252,7 +252,7 @@ module _ (l h : List ℕ) (z : ℕ) where
         let behind : asked + 2 ≤ y.t1 = st.none y.t1 y.t2 y.satisfies in
         clash (y.satisfies.holds y.t1 (omega arith) y.satisfies.admits.ordered) (silent h asked ordered y.t1 (omega arith))
 
-    pub judged : Judged l h z (judgement_of a h asked)
+    pub judged : Judged l h z (Ok (judgement_of a h asked))
     unfolding judgement_of answer
     judged = go (next w' pass (asked + 1) false) refl (can_be w' pass asked) refl (closed h asked ordered a close top)
       where
@@ -265,7 +265,7 @@ module _ (l h : List ℕ) (z : ℕ) where
         go :
             (last : Pass) → next w' pass (asked + 1) false ≡ last → (can : Bool) → can_be w' pass asked ≡ can
             → Passed a (true_at h asked) (asked + 2) last
-            → Judged l h z (told last can)
+            → Judged l h z (Ok (told last can))
         go (Found t1 t2) q can c st = satisfied t1 t2 done st.satisfies st.least
         go Off q true c st =
             satisfiable done (none_left st) (can_sound a close (true_at h asked) asked (silent h asked ordered) top pass left c)

@@ -5,82 +5,81 @@ use mathlib.Core.Path.{◌≡◌, refl, ap}
 use Rattle.time.specs.Annotations.{base, NotSooner, NotLater, NotLonger, Admits}
 use Rattle.time.specs.Normal.{larger, smaller, minus, plus, larger_number, normal, Possible}
 use Rattle.time.specs.Search.{NearBound, NearAll}
-use Rattle.time.specs.declared.Bound.{Bound}
-use Rattle.time.specs.declared.Bound.TheVariants.{Open, At}
+use Rattle.std.specs.Prelude.{Option, None, Some}
 use Rattle.time.specs.declared.Annotation.{Annotation}
 
 -- a bound and one that narrows it, against a minute or an interval: both hold exactly where the larger or smaller one does
 module _ (o r : ℕ) where
-  larger_both : (x y : Bound) (t : ℕ) → NotSooner o r x t → NotSooner o r y t → NotSooner o r (larger x y) t
-  larger_both Open y t p q = q
-  larger_both (At v) Open t p q = p
-  larger_both (At v) (At w) t p q = omega arith
+  larger_both : (x y : Option ℕ) (t : ℕ) → NotSooner o r x t → NotSooner o r y t → NotSooner o r (larger x y) t
+  larger_both None y t p q = q
+  larger_both (Some v) None t p q = p
+  larger_both (Some v) (Some w) t p q = omega arith
 
-  larger_first : (x y : Bound) (t : ℕ) → NotSooner o r (larger x y) t → NotSooner o r x t
-  larger_first Open y t p = tt
-  larger_first (At v) Open t p = p
-  larger_first (At v) (At w) t p = omega arith
+  larger_first : (x y : Option ℕ) (t : ℕ) → NotSooner o r (larger x y) t → NotSooner o r x t
+  larger_first None y t p = tt
+  larger_first (Some v) None t p = p
+  larger_first (Some v) (Some w) t p = omega arith
 
-  smaller_both : (x y : Bound) (t : ℕ) → NotLater o r x t → NotLater o r y t → NotLater o r (smaller x y) t
-  smaller_both Open y t p q = q
-  smaller_both (At v) Open t p q = p
-  smaller_both (At v) (At w) t p q = omega arith
+  smaller_both : (x y : Option ℕ) (t : ℕ) → NotLater o r x t → NotLater o r y t → NotLater o r (smaller x y) t
+  smaller_both None y t p q = q
+  smaller_both (Some v) None t p q = p
+  smaller_both (Some v) (Some w) t p q = omega arith
 
-  smaller_first : (x y : Bound) (t : ℕ) → NotLater o r (smaller x y) t → NotLater o r x t
-  smaller_first Open y t p = tt
-  smaller_first (At v) Open t p = p
-  smaller_first (At v) (At w) t p = omega arith
+  smaller_first : (x y : Option ℕ) (t : ℕ) → NotLater o r (smaller x y) t → NotLater o r x t
+  smaller_first None y t p = tt
+  smaller_first (Some v) None t p = p
+  smaller_first (Some v) (Some w) t p = omega arith
 
-short_both : (x y : Bound) (t1 t2 : ℕ) → NotLonger x t1 t2 → NotLonger y t1 t2 → NotLonger (smaller x y) t1 t2
-short_both Open y t1 t2 p q = q
-short_both (At v) Open t1 t2 p q = p
-short_both (At v) (At w) t1 t2 p q = omega arith
+short_both : (x y : Option ℕ) (t1 t2 : ℕ) → NotLonger x t1 t2 → NotLonger y t1 t2 → NotLonger (smaller x y) t1 t2
+short_both None y t1 t2 p q = q
+short_both (Some v) None t1 t2 p q = p
+short_both (Some v) (Some w) t1 t2 p q = omega arith
 
-short_first : (x y : Bound) (t1 t2 : ℕ) → NotLonger (smaller x y) t1 t2 → NotLonger x t1 t2
-short_first Open y t1 t2 p = tt
-short_first (At v) Open t1 t2 p = p
-short_first (At v) (At w) t1 t2 p = omega arith
+short_first : (x y : Option ℕ) (t1 t2 : ℕ) → NotLonger (smaller x y) t1 t2 → NotLonger x t1 t2
+short_first None y t1 t2 p = tt
+short_first (Some v) None t1 t2 p = p
+short_first (Some v) (Some w) t1 t2 p = omega arith
 
-least_kept : (k : ℕ) (y : Bound) → k ≤ larger_number k y
-least_kept k Open = omega arith
-least_kept k (At w) = omega arith
+least_kept : (k : ℕ) (y : Option ℕ) → k ≤ larger_number k y
+least_kept k None = omega arith
+least_kept k (Some w) = omega arith
 
 -- what each formula adds holds of an interval that is admitted
 module _ (o r t1 t2 k : ℕ) (long : t1 + k ≤ t2 + base) where
   ess_too :
-      (efs greatest : Bound) → NearBound efs → NearBound greatest → NotSooner o r efs t2 → NotLonger greatest t1 t2
+      (efs greatest : Option ℕ) → NearBound efs → NearBound greatest → NotSooner o r efs t2 → NotLonger greatest t1 t2
       → NotSooner o r (minus efs greatest) t1
-  ess_too Open greatest hx hy p q = tt
-  ess_too (At v) Open hx hy p q = tt
-  ess_too (At v) (At w) hx hy p q = omega arith
+  ess_too None greatest hx hy p q = tt
+  ess_too (Some v) None hx hy p q = tt
+  ess_too (Some v) (Some w) hx hy p q = omega arith
 
-  lss_too : (lfs : Bound) → NearBound lfs → k ≤ 5000000000 → NotLater o r lfs t2 → NotLater o r (minus lfs (At k)) t1
-  lss_too Open hx l p = tt
-  lss_too (At v) hx l p = omega arith
+  lss_too : (lfs : Option ℕ) → NearBound lfs → k ≤ 5000000000 → NotLater o r lfs t2 → NotLater o r (minus lfs (Some k)) t1
+  lss_too None hx l p = tt
+  lss_too (Some v) hx l p = omega arith
 
-  efs_too : (ess : Bound) → NearBound ess → base ≤ k → NotSooner o r ess t1 → NotSooner o r (plus ess (At k)) t2
-  efs_too Open hx l p = tt
-  efs_too (At v) hx l p = omega arith
+  efs_too : (ess : Option ℕ) → NearBound ess → base ≤ k → NotSooner o r ess t1 → NotSooner o r (plus ess (Some k)) t2
+  efs_too None hx l p = tt
+  efs_too (Some v) hx l p = omega arith
 
   lfs_too :
-      (lss greatest : Bound) → NearBound lss → NearBound greatest → NotLater o r lss t1 → NotLonger greatest t1 t2
+      (lss greatest : Option ℕ) → NearBound lss → NearBound greatest → NotLater o r lss t1 → NotLonger greatest t1 t2
       → NotLater o r (plus lss greatest) t2
-  lfs_too Open greatest hx hy p q = tt
-  lfs_too (At v) Open hx hy p q = tt
-  lfs_too (At v) (At w) hx hy p q = omega arith
+  lfs_too None greatest hx hy p q = tt
+  lfs_too (Some v) None hx hy p q = tt
+  lfs_too (Some v) (Some w) hx hy p q = omega arith
 
   least_too :
-      (efs lss : Bound) → NearBound efs → NearBound lss → NotSooner o r efs t2 → NotLater o r lss t1
+      (efs lss : Option ℕ) → NearBound efs → NearBound lss → NotSooner o r efs t2 → NotLater o r lss t1
       → t1 + larger_number k (minus efs lss) ≤ t2 + base
-  least_too Open lss hx hy p q = long
-  least_too (At v) Open hx hy p q = long
-  least_too (At v) (At w) hx hy p q = omega arith
+  least_too None lss hx hy p q = long
+  least_too (Some v) None hx hy p q = long
+  least_too (Some v) (Some w) hx hy p q = omega arith
 
   greatest_too :
-      (lfs ess : Bound) → NearBound lfs → NearBound ess → NotLater o r lfs t2 → NotSooner o r ess t1 → NotLonger (minus lfs ess) t1 t2
-  greatest_too Open ess hx hy p q = tt
-  greatest_too (At v) Open hx hy p q = tt
-  greatest_too (At v) (At w) hx hy p q = omega arith
+      (lfs ess : Option ℕ) → NearBound lfs → NearBound ess → NotLater o r lfs t2 → NotSooner o r ess t1 → NotLonger (minus lfs ess) t1 t2
+  greatest_too None ess hx hy p q = tt
+  greatest_too (Some v) None hx hy p q = tt
+  greatest_too (Some v) (Some w) hx hy p q = omega arith
 
 module _ (a : Annotation) (n : NearAll a) (o t1 t2 : ℕ) where
   abbrev r : ℕ
@@ -103,9 +102,9 @@ module _ (a : Annotation) (n : NearAll a) (o t1 t2 : ℕ) where
             larger_both o r a.ess (minus a.efs a.greatest) t1 m.ess
             (ess_too o r t1 t2 k long a.efs a.greatest n.efs n.greatest m.efs m.short);
         lss =
-            smaller_both o r a.lss (minus a.lfs (At k)) t1 m.lss (lss_too o r t1 t2 k long a.lfs n.lfs n.least m.lfs);
+            smaller_both o r a.lss (minus a.lfs (Some k)) t1 m.lss (lss_too o r t1 t2 k long a.lfs n.lfs n.least m.lfs);
         efs =
-            larger_both o r a.efs (plus a.ess (At k)) t2 m.efs (efs_too o r t1 t2 k long a.ess n.ess n.low m.ess);
+            larger_both o r a.efs (plus a.ess (Some k)) t2 m.efs (efs_too o r t1 t2 k long a.ess n.ess n.low m.ess);
         lfs =
             smaller_both o r a.lfs (plus a.lss a.greatest) t2 m.lfs
             (lfs_too o r t1 t2 k long a.lss a.greatest n.lss n.greatest m.lss m.short);
@@ -121,37 +120,37 @@ module _ (a : Annotation) (n : NearAll a) (o t1 t2 : ℕ) where
         long = omega arith;
         short = short_first a.greatest (minus a.lfs a.ess) t1 t2 m.short;
         ess = larger_first o r a.ess (minus a.efs a.greatest) t1 m.ess;
-        lss = smaller_first o r a.lss (minus a.lfs (At k)) t1 m.lss;
-        efs = larger_first o r a.efs (plus a.ess (At k)) t2 m.efs;
+        lss = smaller_first o r a.lss (minus a.lfs (Some k)) t1 m.lss;
+        efs = larger_first o r a.efs (plus a.ess (Some k)) t2 m.efs;
         lfs = smaller_first o r a.lfs (plus a.lss a.greatest) t2 m.lfs;
       }
 
 -- y adds nothing to x, of least bounds and of greatest ones
-abbrev Under : Bound → Bound → Type 0
-Under Open x = Unit
-Under (At w) Open = ⊥
-Under (At w) (At v) = w ≤ v
+abbrev Under : Option ℕ → Option ℕ → Type 0
+Under None x = Unit
+Under (Some w) None = ⊥
+Under (Some w) (Some v) = w ≤ v
 
-abbrev Over : Bound → Bound → Type 0
-Over Open x = Unit
-Over (At w) Open = ⊥
-Over (At w) (At v) = v ≤ w
+abbrev Over : Option ℕ → Option ℕ → Type 0
+Over None x = Unit
+Over (Some w) None = ⊥
+Over (Some w) (Some v) = v ≤ w
 
-larger_keeps : (x y : Bound) → Under y x → larger x y ≡ x
-larger_keeps Open Open p = refl
-larger_keeps Open (At w) p = absurd p
-larger_keeps (At v) Open p = refl
-larger_keeps (At v) (At w) p = ap At (omega arith)
+larger_keeps : (x y : Option ℕ) → Under y x → larger x y ≡ x
+larger_keeps None None p = refl
+larger_keeps None (Some w) p = absurd p
+larger_keeps (Some v) None p = refl
+larger_keeps (Some v) (Some w) p = ap Some (omega arith)
 
-smaller_keeps : (x y : Bound) → Over y x → smaller x y ≡ x
-smaller_keeps Open Open p = refl
-smaller_keeps Open (At w) p = absurd p
-smaller_keeps (At v) Open p = refl
-smaller_keeps (At v) (At w) p = ap At (omega arith)
+smaller_keeps : (x y : Option ℕ) → Over y x → smaller x y ≡ x
+smaller_keeps None None p = refl
+smaller_keeps None (Some w) p = absurd p
+smaller_keeps (Some v) None p = refl
+smaller_keeps (Some v) (Some w) p = ap Some (omega arith)
 
-number_keeps : (k : ℕ) (y : Bound) → Under y (At k) → larger_number k y ≡ k
-number_keeps k Open p = refl
-number_keeps k (At w) p = omega arith
+number_keeps : (k : ℕ) (y : Option ℕ) → Under y (Some k) → larger_number k y ≡ k
+number_keeps k None p = refl
+number_keeps k (Some w) p = omega arith
 
 -- a difference taken whole, for `omega` has few case splits to spend
 less_under : (x y z : ℕ) → x ≤ z + y → x - y ≤ z
@@ -163,151 +162,151 @@ under_less x y z p = omega arith
 -- each formula over the normal bounds adds nothing, where some interval is admitted
 module _ (o r t1 t2 k : ℕ) (low : base ≤ k) (small : k ≤ 5000000000) (long : t1 + k ≤ t2 + base) where
   ess_again :
-      (ess efs lfs greatest : Bound) → NearBound ess → NearBound efs → NearBound lfs → NearBound greatest
+      (ess efs lfs greatest : Option ℕ) → NearBound ess → NearBound efs → NearBound lfs → NearBound greatest
       → NotSooner o r ess t1 → NotSooner o r efs t2 → NotLater o r lfs t2 → NotLonger greatest t1 t2
-      → Under (minus (larger efs (plus ess (At k))) (smaller greatest (minus lfs ess))) (larger ess (minus efs greatest))
-  ess_again Open Open Open Open hs he hf hd ps pe pf pd = omega arith
-  ess_again Open Open Open (At d) hs he hf hd ps pe pf pd = omega arith
-  ess_again Open Open (At f) Open hs he hf hd ps pe pf pd = omega arith
-  ess_again Open Open (At f) (At d) hs he hf hd ps pe pf pd = omega arith
-  ess_again Open (At e) Open Open hs he hf hd ps pe pf pd = omega arith
-  ess_again Open (At e) Open (At d) hs he hf hd ps pe pf pd = omega arith
-  ess_again Open (At e) (At f) Open hs he hf hd ps pe pf pd = omega arith
-  ess_again Open (At e) (At f) (At d) hs he hf hd ps pe pf pd = omega arith
-  ess_again (At s) Open Open Open hs he hf hd ps pe pf pd = omega arith
-  ess_again (At s) Open Open (At d) hs he hf hd ps pe pf pd = omega arith
-  ess_again (At s) Open (At f) Open hs he hf hd ps pe pf pd = omega arith
-  ess_again (At s) Open (At f) (At d) hs he hf hd ps pe pf pd = omega arith
-  ess_again (At s) (At e) Open Open hs he hf hd ps pe pf pd = omega arith
-  ess_again (At s) (At e) Open (At d) hs he hf hd ps pe pf pd = omega arith
-  ess_again (At s) (At e) (At f) Open hs he hf hd ps pe pf pd = omega arith
-  ess_again (At s) (At e) (At f) (At d) hs he hf hd ps pe pf pd =
+      → Under (minus (larger efs (plus ess (Some k))) (smaller greatest (minus lfs ess))) (larger ess (minus efs greatest))
+  ess_again None None None None hs he hf hd ps pe pf pd = omega arith
+  ess_again None None None (Some d) hs he hf hd ps pe pf pd = omega arith
+  ess_again None None (Some f) None hs he hf hd ps pe pf pd = omega arith
+  ess_again None None (Some f) (Some d) hs he hf hd ps pe pf pd = omega arith
+  ess_again None (Some e) None None hs he hf hd ps pe pf pd = omega arith
+  ess_again None (Some e) None (Some d) hs he hf hd ps pe pf pd = omega arith
+  ess_again None (Some e) (Some f) None hs he hf hd ps pe pf pd = omega arith
+  ess_again None (Some e) (Some f) (Some d) hs he hf hd ps pe pf pd = omega arith
+  ess_again (Some s) None None None hs he hf hd ps pe pf pd = omega arith
+  ess_again (Some s) None None (Some d) hs he hf hd ps pe pf pd = omega arith
+  ess_again (Some s) None (Some f) None hs he hf hd ps pe pf pd = omega arith
+  ess_again (Some s) None (Some f) (Some d) hs he hf hd ps pe pf pd = omega arith
+  ess_again (Some s) (Some e) None None hs he hf hd ps pe pf pd = omega arith
+  ess_again (Some s) (Some e) None (Some d) hs he hf hd ps pe pf pd = omega arith
+  ess_again (Some s) (Some e) (Some f) None hs he hf hd ps pe pf pd = omega arith
+  ess_again (Some s) (Some e) (Some f) (Some d) hs he hf hd ps pe pf pd =
       less_under (max e (s + k - base) + base) (min d (f + base - s)) (max s (e + base - d)) (omega arith)
 
   lss_again :
-      (lss lfs efs greatest : Bound) → NearBound lss → NearBound lfs → NearBound efs → NearBound greatest
+      (lss lfs efs greatest : Option ℕ) → NearBound lss → NearBound lfs → NearBound efs → NearBound greatest
       → NotLater o r lss t1 → NotLater o r lfs t2 → NotSooner o r efs t2 → NotLonger greatest t1 t2
-      → Over (minus (smaller lfs (plus lss greatest)) (At (larger_number k (minus efs lss)))) (smaller lss (minus lfs (At k)))
-  lss_again Open Open Open Open hl hf he hd pl pf pe pd = omega arith
-  lss_again Open Open Open (At d) hl hf he hd pl pf pe pd = omega arith
-  lss_again Open Open (At e) Open hl hf he hd pl pf pe pd = omega arith
-  lss_again Open Open (At e) (At d) hl hf he hd pl pf pe pd = omega arith
-  lss_again Open (At f) Open Open hl hf he hd pl pf pe pd = omega arith
-  lss_again Open (At f) Open (At d) hl hf he hd pl pf pe pd = omega arith
-  lss_again Open (At f) (At e) Open hl hf he hd pl pf pe pd = omega arith
-  lss_again Open (At f) (At e) (At d) hl hf he hd pl pf pe pd = omega arith
-  lss_again (At l) Open Open Open hl hf he hd pl pf pe pd = omega arith
-  lss_again (At l) Open Open (At d) hl hf he hd pl pf pe pd = omega arith
-  lss_again (At l) Open (At e) Open hl hf he hd pl pf pe pd = omega arith
-  lss_again (At l) Open (At e) (At d) hl hf he hd pl pf pe pd = omega arith
-  lss_again (At l) (At f) Open Open hl hf he hd pl pf pe pd = omega arith
-  lss_again (At l) (At f) Open (At d) hl hf he hd pl pf pe pd = omega arith
-  lss_again (At l) (At f) (At e) Open hl hf he hd pl pf pe pd = omega arith
-  lss_again (At l) (At f) (At e) (At d) hl hf he hd pl pf pe pd =
+      → Over (minus (smaller lfs (plus lss greatest)) (Some (larger_number k (minus efs lss)))) (smaller lss (minus lfs (Some k)))
+  lss_again None None None None hl hf he hd pl pf pe pd = omega arith
+  lss_again None None None (Some d) hl hf he hd pl pf pe pd = omega arith
+  lss_again None None (Some e) None hl hf he hd pl pf pe pd = omega arith
+  lss_again None None (Some e) (Some d) hl hf he hd pl pf pe pd = omega arith
+  lss_again None (Some f) None None hl hf he hd pl pf pe pd = omega arith
+  lss_again None (Some f) None (Some d) hl hf he hd pl pf pe pd = omega arith
+  lss_again None (Some f) (Some e) None hl hf he hd pl pf pe pd = omega arith
+  lss_again None (Some f) (Some e) (Some d) hl hf he hd pl pf pe pd = omega arith
+  lss_again (Some l) None None None hl hf he hd pl pf pe pd = omega arith
+  lss_again (Some l) None None (Some d) hl hf he hd pl pf pe pd = omega arith
+  lss_again (Some l) None (Some e) None hl hf he hd pl pf pe pd = omega arith
+  lss_again (Some l) None (Some e) (Some d) hl hf he hd pl pf pe pd = omega arith
+  lss_again (Some l) (Some f) None None hl hf he hd pl pf pe pd = omega arith
+  lss_again (Some l) (Some f) None (Some d) hl hf he hd pl pf pe pd = omega arith
+  lss_again (Some l) (Some f) (Some e) None hl hf he hd pl pf pe pd = omega arith
+  lss_again (Some l) (Some f) (Some e) (Some d) hl hf he hd pl pf pe pd =
       under_less (min l (f + base - k)) (max k (e + base - l)) (min f (l + d - base) + base) (omega arith)
 
   efs_again :
-      (ess efs greatest lss : Bound) → NearBound ess → NearBound efs → NearBound greatest → NearBound lss
+      (ess efs greatest lss : Option ℕ) → NearBound ess → NearBound efs → NearBound greatest → NearBound lss
       → NotSooner o r ess t1 → NotSooner o r efs t2 → NotLonger greatest t1 t2 → NotLater o r lss t1
-      → Under (plus (larger ess (minus efs greatest)) (At (larger_number k (minus efs lss)))) (larger efs (plus ess (At k)))
-  efs_again Open Open Open Open hs he hd hl ps pe pd pl = omega arith
-  efs_again Open Open Open (At l) hs he hd hl ps pe pd pl = omega arith
-  efs_again Open Open (At d) Open hs he hd hl ps pe pd pl = omega arith
-  efs_again Open Open (At d) (At l) hs he hd hl ps pe pd pl = omega arith
-  efs_again Open (At e) Open Open hs he hd hl ps pe pd pl = omega arith
-  efs_again Open (At e) Open (At l) hs he hd hl ps pe pd pl = omega arith
-  efs_again Open (At e) (At d) Open hs he hd hl ps pe pd pl = omega arith
-  efs_again Open (At e) (At d) (At l) hs he hd hl ps pe pd pl = omega arith
-  efs_again (At s) Open Open Open hs he hd hl ps pe pd pl = omega arith
-  efs_again (At s) Open Open (At l) hs he hd hl ps pe pd pl = omega arith
-  efs_again (At s) Open (At d) Open hs he hd hl ps pe pd pl = omega arith
-  efs_again (At s) Open (At d) (At l) hs he hd hl ps pe pd pl = omega arith
-  efs_again (At s) (At e) Open Open hs he hd hl ps pe pd pl = omega arith
-  efs_again (At s) (At e) Open (At l) hs he hd hl ps pe pd pl = omega arith
-  efs_again (At s) (At e) (At d) Open hs he hd hl ps pe pd pl = omega arith
-  efs_again (At s) (At e) (At d) (At l) hs he hd hl ps pe pd pl =
+      → Under (plus (larger ess (minus efs greatest)) (Some (larger_number k (minus efs lss)))) (larger efs (plus ess (Some k)))
+  efs_again None None None None hs he hd hl ps pe pd pl = omega arith
+  efs_again None None None (Some l) hs he hd hl ps pe pd pl = omega arith
+  efs_again None None (Some d) None hs he hd hl ps pe pd pl = omega arith
+  efs_again None None (Some d) (Some l) hs he hd hl ps pe pd pl = omega arith
+  efs_again None (Some e) None None hs he hd hl ps pe pd pl = omega arith
+  efs_again None (Some e) None (Some l) hs he hd hl ps pe pd pl = omega arith
+  efs_again None (Some e) (Some d) None hs he hd hl ps pe pd pl = omega arith
+  efs_again None (Some e) (Some d) (Some l) hs he hd hl ps pe pd pl = omega arith
+  efs_again (Some s) None None None hs he hd hl ps pe pd pl = omega arith
+  efs_again (Some s) None None (Some l) hs he hd hl ps pe pd pl = omega arith
+  efs_again (Some s) None (Some d) None hs he hd hl ps pe pd pl = omega arith
+  efs_again (Some s) None (Some d) (Some l) hs he hd hl ps pe pd pl = omega arith
+  efs_again (Some s) (Some e) None None hs he hd hl ps pe pd pl = omega arith
+  efs_again (Some s) (Some e) None (Some l) hs he hd hl ps pe pd pl = omega arith
+  efs_again (Some s) (Some e) (Some d) None hs he hd hl ps pe pd pl = omega arith
+  efs_again (Some s) (Some e) (Some d) (Some l) hs he hd hl ps pe pd pl =
       less_under (max s (e + base - d) + max k (e + base - l)) base (max e (s + k - base)) (omega arith)
 
   lfs_again :
-      (lss lfs greatest ess : Bound) → NearBound lss → NearBound lfs → NearBound greatest → NearBound ess
+      (lss lfs greatest ess : Option ℕ) → NearBound lss → NearBound lfs → NearBound greatest → NearBound ess
       → NotLater o r lss t1 → NotLater o r lfs t2 → NotLonger greatest t1 t2 → NotSooner o r ess t1
-      → Over (plus (smaller lss (minus lfs (At k))) (smaller greatest (minus lfs ess))) (smaller lfs (plus lss greatest))
-  lfs_again Open Open Open Open hl hf hd hs pl pf pd ps = omega arith
-  lfs_again Open Open Open (At s) hl hf hd hs pl pf pd ps = omega arith
-  lfs_again Open Open (At d) Open hl hf hd hs pl pf pd ps = omega arith
-  lfs_again Open Open (At d) (At s) hl hf hd hs pl pf pd ps = omega arith
-  lfs_again Open (At f) Open Open hl hf hd hs pl pf pd ps = omega arith
-  lfs_again Open (At f) Open (At s) hl hf hd hs pl pf pd ps = omega arith
-  lfs_again Open (At f) (At d) Open hl hf hd hs pl pf pd ps = omega arith
-  lfs_again Open (At f) (At d) (At s) hl hf hd hs pl pf pd ps = omega arith
-  lfs_again (At l) Open Open Open hl hf hd hs pl pf pd ps = omega arith
-  lfs_again (At l) Open Open (At s) hl hf hd hs pl pf pd ps = omega arith
-  lfs_again (At l) Open (At d) Open hl hf hd hs pl pf pd ps = omega arith
-  lfs_again (At l) Open (At d) (At s) hl hf hd hs pl pf pd ps = omega arith
-  lfs_again (At l) (At f) Open Open hl hf hd hs pl pf pd ps = omega arith
-  lfs_again (At l) (At f) Open (At s) hl hf hd hs pl pf pd ps = omega arith
-  lfs_again (At l) (At f) (At d) Open hl hf hd hs pl pf pd ps = omega arith
-  lfs_again (At l) (At f) (At d) (At s) hl hf hd hs pl pf pd ps =
+      → Over (plus (smaller lss (minus lfs (Some k))) (smaller greatest (minus lfs ess))) (smaller lfs (plus lss greatest))
+  lfs_again None None None None hl hf hd hs pl pf pd ps = omega arith
+  lfs_again None None None (Some s) hl hf hd hs pl pf pd ps = omega arith
+  lfs_again None None (Some d) None hl hf hd hs pl pf pd ps = omega arith
+  lfs_again None None (Some d) (Some s) hl hf hd hs pl pf pd ps = omega arith
+  lfs_again None (Some f) None None hl hf hd hs pl pf pd ps = omega arith
+  lfs_again None (Some f) None (Some s) hl hf hd hs pl pf pd ps = omega arith
+  lfs_again None (Some f) (Some d) None hl hf hd hs pl pf pd ps = omega arith
+  lfs_again None (Some f) (Some d) (Some s) hl hf hd hs pl pf pd ps = omega arith
+  lfs_again (Some l) None None None hl hf hd hs pl pf pd ps = omega arith
+  lfs_again (Some l) None None (Some s) hl hf hd hs pl pf pd ps = omega arith
+  lfs_again (Some l) None (Some d) None hl hf hd hs pl pf pd ps = omega arith
+  lfs_again (Some l) None (Some d) (Some s) hl hf hd hs pl pf pd ps = omega arith
+  lfs_again (Some l) (Some f) None None hl hf hd hs pl pf pd ps = omega arith
+  lfs_again (Some l) (Some f) None (Some s) hl hf hd hs pl pf pd ps = omega arith
+  lfs_again (Some l) (Some f) (Some d) None hl hf hd hs pl pf pd ps = omega arith
+  lfs_again (Some l) (Some f) (Some d) (Some s) hl hf hd hs pl pf pd ps =
       under_less (min f (l + d - base)) base (min l (f + base - k) + min d (f + base - s)) (omega arith)
 
   least_again :
-      (efs lss ess lfs : Bound) → NearBound efs → NearBound lss → NearBound ess → NearBound lfs
+      (efs lss ess lfs : Option ℕ) → NearBound efs → NearBound lss → NearBound ess → NearBound lfs
       → NotSooner o r efs t2 → NotLater o r lss t1 → NotSooner o r ess t1 → NotLater o r lfs t2
-      → Under (minus (larger efs (plus ess (At k))) (smaller lss (minus lfs (At k)))) (At (larger_number k (minus efs lss)))
-  least_again Open Open Open Open he hl hs hf pe pl ps pf = omega arith
-  least_again Open Open Open (At f) he hl hs hf pe pl ps pf = omega arith
-  least_again Open Open (At s) Open he hl hs hf pe pl ps pf = omega arith
-  least_again Open Open (At s) (At f) he hl hs hf pe pl ps pf = omega arith
-  least_again Open (At l) Open Open he hl hs hf pe pl ps pf = omega arith
-  least_again Open (At l) Open (At f) he hl hs hf pe pl ps pf = omega arith
-  least_again Open (At l) (At s) Open he hl hs hf pe pl ps pf = omega arith
-  least_again Open (At l) (At s) (At f) he hl hs hf pe pl ps pf = omega arith
-  least_again (At e) Open Open Open he hl hs hf pe pl ps pf = omega arith
-  least_again (At e) Open Open (At f) he hl hs hf pe pl ps pf = omega arith
-  least_again (At e) Open (At s) Open he hl hs hf pe pl ps pf = omega arith
-  least_again (At e) Open (At s) (At f) he hl hs hf pe pl ps pf = omega arith
-  least_again (At e) (At l) Open Open he hl hs hf pe pl ps pf = omega arith
-  least_again (At e) (At l) Open (At f) he hl hs hf pe pl ps pf = omega arith
-  least_again (At e) (At l) (At s) Open he hl hs hf pe pl ps pf = omega arith
-  least_again (At e) (At l) (At s) (At f) he hl hs hf pe pl ps pf =
+      → Under (minus (larger efs (plus ess (Some k))) (smaller lss (minus lfs (Some k)))) (Some (larger_number k (minus efs lss)))
+  least_again None None None None he hl hs hf pe pl ps pf = omega arith
+  least_again None None None (Some f) he hl hs hf pe pl ps pf = omega arith
+  least_again None None (Some s) None he hl hs hf pe pl ps pf = omega arith
+  least_again None None (Some s) (Some f) he hl hs hf pe pl ps pf = omega arith
+  least_again None (Some l) None None he hl hs hf pe pl ps pf = omega arith
+  least_again None (Some l) None (Some f) he hl hs hf pe pl ps pf = omega arith
+  least_again None (Some l) (Some s) None he hl hs hf pe pl ps pf = omega arith
+  least_again None (Some l) (Some s) (Some f) he hl hs hf pe pl ps pf = omega arith
+  least_again (Some e) None None None he hl hs hf pe pl ps pf = omega arith
+  least_again (Some e) None None (Some f) he hl hs hf pe pl ps pf = omega arith
+  least_again (Some e) None (Some s) None he hl hs hf pe pl ps pf = omega arith
+  least_again (Some e) None (Some s) (Some f) he hl hs hf pe pl ps pf = omega arith
+  least_again (Some e) (Some l) None None he hl hs hf pe pl ps pf = omega arith
+  least_again (Some e) (Some l) None (Some f) he hl hs hf pe pl ps pf = omega arith
+  least_again (Some e) (Some l) (Some s) None he hl hs hf pe pl ps pf = omega arith
+  least_again (Some e) (Some l) (Some s) (Some f) he hl hs hf pe pl ps pf =
       less_under (max e (s + k - base) + base) (min l (f + base - k)) (max k (e + base - l)) (omega arith)
 
   greatest_again :
-      (greatest lfs ess lss efs : Bound) → NearBound greatest → NearBound lfs → NearBound ess → NearBound lss → NearBound efs
+      (greatest lfs ess lss efs : Option ℕ) → NearBound greatest → NearBound lfs → NearBound ess → NearBound lss → NearBound efs
       → NotLonger greatest t1 t2 → NotLater o r lfs t2 → NotSooner o r ess t1 → NotLater o r lss t1 → NotSooner o r efs t2
       → Over (minus (smaller lfs (plus lss greatest)) (larger ess (minus efs greatest))) (smaller greatest (minus lfs ess))
-  greatest_again Open Open Open Open Open hd hf hs hl he pd pf ps pl pe = omega arith
-  greatest_again Open Open Open Open (At e) hd hf hs hl he pd pf ps pl pe = omega arith
-  greatest_again Open Open Open (At l) Open hd hf hs hl he pd pf ps pl pe = omega arith
-  greatest_again Open Open Open (At l) (At e) hd hf hs hl he pd pf ps pl pe = omega arith
-  greatest_again Open Open (At s) Open Open hd hf hs hl he pd pf ps pl pe = omega arith
-  greatest_again Open Open (At s) Open (At e) hd hf hs hl he pd pf ps pl pe = omega arith
-  greatest_again Open Open (At s) (At l) Open hd hf hs hl he pd pf ps pl pe = omega arith
-  greatest_again Open Open (At s) (At l) (At e) hd hf hs hl he pd pf ps pl pe = omega arith
-  greatest_again Open (At f) Open Open Open hd hf hs hl he pd pf ps pl pe = omega arith
-  greatest_again Open (At f) Open Open (At e) hd hf hs hl he pd pf ps pl pe = omega arith
-  greatest_again Open (At f) Open (At l) Open hd hf hs hl he pd pf ps pl pe = omega arith
-  greatest_again Open (At f) Open (At l) (At e) hd hf hs hl he pd pf ps pl pe = omega arith
-  greatest_again Open (At f) (At s) Open Open hd hf hs hl he pd pf ps pl pe = omega arith
-  greatest_again Open (At f) (At s) Open (At e) hd hf hs hl he pd pf ps pl pe = omega arith
-  greatest_again Open (At f) (At s) (At l) Open hd hf hs hl he pd pf ps pl pe = omega arith
-  greatest_again Open (At f) (At s) (At l) (At e) hd hf hs hl he pd pf ps pl pe = omega arith
-  greatest_again (At d) Open Open Open Open hd hf hs hl he pd pf ps pl pe = omega arith
-  greatest_again (At d) Open Open Open (At e) hd hf hs hl he pd pf ps pl pe = omega arith
-  greatest_again (At d) Open Open (At l) Open hd hf hs hl he pd pf ps pl pe = omega arith
-  greatest_again (At d) Open Open (At l) (At e) hd hf hs hl he pd pf ps pl pe = omega arith
-  greatest_again (At d) Open (At s) Open Open hd hf hs hl he pd pf ps pl pe = omega arith
-  greatest_again (At d) Open (At s) Open (At e) hd hf hs hl he pd pf ps pl pe = omega arith
-  greatest_again (At d) Open (At s) (At l) Open hd hf hs hl he pd pf ps pl pe = omega arith
-  greatest_again (At d) Open (At s) (At l) (At e) hd hf hs hl he pd pf ps pl pe = omega arith
-  greatest_again (At d) (At f) Open Open Open hd hf hs hl he pd pf ps pl pe = omega arith
-  greatest_again (At d) (At f) Open Open (At e) hd hf hs hl he pd pf ps pl pe = omega arith
-  greatest_again (At d) (At f) Open (At l) Open hd hf hs hl he pd pf ps pl pe = omega arith
-  greatest_again (At d) (At f) Open (At l) (At e) hd hf hs hl he pd pf ps pl pe = omega arith
-  greatest_again (At d) (At f) (At s) Open Open hd hf hs hl he pd pf ps pl pe = omega arith
-  greatest_again (At d) (At f) (At s) Open (At e) hd hf hs hl he pd pf ps pl pe = omega arith
-  greatest_again (At d) (At f) (At s) (At l) Open hd hf hs hl he pd pf ps pl pe = omega arith
-  greatest_again (At d) (At f) (At s) (At l) (At e) hd hf hs hl he pd pf ps pl pe =
+  greatest_again None None None None None hd hf hs hl he pd pf ps pl pe = omega arith
+  greatest_again None None None None (Some e) hd hf hs hl he pd pf ps pl pe = omega arith
+  greatest_again None None None (Some l) None hd hf hs hl he pd pf ps pl pe = omega arith
+  greatest_again None None None (Some l) (Some e) hd hf hs hl he pd pf ps pl pe = omega arith
+  greatest_again None None (Some s) None None hd hf hs hl he pd pf ps pl pe = omega arith
+  greatest_again None None (Some s) None (Some e) hd hf hs hl he pd pf ps pl pe = omega arith
+  greatest_again None None (Some s) (Some l) None hd hf hs hl he pd pf ps pl pe = omega arith
+  greatest_again None None (Some s) (Some l) (Some e) hd hf hs hl he pd pf ps pl pe = omega arith
+  greatest_again None (Some f) None None None hd hf hs hl he pd pf ps pl pe = omega arith
+  greatest_again None (Some f) None None (Some e) hd hf hs hl he pd pf ps pl pe = omega arith
+  greatest_again None (Some f) None (Some l) None hd hf hs hl he pd pf ps pl pe = omega arith
+  greatest_again None (Some f) None (Some l) (Some e) hd hf hs hl he pd pf ps pl pe = omega arith
+  greatest_again None (Some f) (Some s) None None hd hf hs hl he pd pf ps pl pe = omega arith
+  greatest_again None (Some f) (Some s) None (Some e) hd hf hs hl he pd pf ps pl pe = omega arith
+  greatest_again None (Some f) (Some s) (Some l) None hd hf hs hl he pd pf ps pl pe = omega arith
+  greatest_again None (Some f) (Some s) (Some l) (Some e) hd hf hs hl he pd pf ps pl pe = omega arith
+  greatest_again (Some d) None None None None hd hf hs hl he pd pf ps pl pe = omega arith
+  greatest_again (Some d) None None None (Some e) hd hf hs hl he pd pf ps pl pe = omega arith
+  greatest_again (Some d) None None (Some l) None hd hf hs hl he pd pf ps pl pe = omega arith
+  greatest_again (Some d) None None (Some l) (Some e) hd hf hs hl he pd pf ps pl pe = omega arith
+  greatest_again (Some d) None (Some s) None None hd hf hs hl he pd pf ps pl pe = omega arith
+  greatest_again (Some d) None (Some s) None (Some e) hd hf hs hl he pd pf ps pl pe = omega arith
+  greatest_again (Some d) None (Some s) (Some l) None hd hf hs hl he pd pf ps pl pe = omega arith
+  greatest_again (Some d) None (Some s) (Some l) (Some e) hd hf hs hl he pd pf ps pl pe = omega arith
+  greatest_again (Some d) (Some f) None None None hd hf hs hl he pd pf ps pl pe = omega arith
+  greatest_again (Some d) (Some f) None None (Some e) hd hf hs hl he pd pf ps pl pe = omega arith
+  greatest_again (Some d) (Some f) None (Some l) None hd hf hs hl he pd pf ps pl pe = omega arith
+  greatest_again (Some d) (Some f) None (Some l) (Some e) hd hf hs hl he pd pf ps pl pe = omega arith
+  greatest_again (Some d) (Some f) (Some s) None None hd hf hs hl he pd pf ps pl pe = omega arith
+  greatest_again (Some d) (Some f) (Some s) None (Some e) hd hf hs hl he pd pf ps pl pe = omega arith
+  greatest_again (Some d) (Some f) (Some s) (Some l) None hd hf hs hl he pd pf ps pl pe = omega arith
+  greatest_again (Some d) (Some f) (Some s) (Some l) (Some e) hd hf hs hl he pd pf ps pl pe =
       under_less (min d (f + base - s)) (max s (e + base - d)) (min f (l + d - base) + base) (omega arith)
 
 module _ (a : Annotation) (n : NearAll a) (o t1 t2 : ℕ) (m : Admits o a t1 t2) where
@@ -317,22 +316,22 @@ module _ (a : Annotation) (n : NearAll a) (o t1 t2 : ℕ) (m : Admits o a t1 t2)
   abbrev k' : ℕ
   k' = a.least
 
-  abbrev ess' : Bound
+  abbrev ess' : Option ℕ
   ess' = larger a.ess (minus a.efs a.greatest)
 
-  abbrev lss' : Bound
-  lss' = smaller a.lss (minus a.lfs (At k'))
+  abbrev lss' : Option ℕ
+  lss' = smaller a.lss (minus a.lfs (Some k'))
 
-  abbrev efs' : Bound
-  efs' = larger a.efs (plus a.ess (At k'))
+  abbrev efs' : Option ℕ
+  efs' = larger a.efs (plus a.ess (Some k'))
 
-  abbrev lfs' : Bound
+  abbrev lfs' : Option ℕ
   lfs' = smaller a.lfs (plus a.lss a.greatest)
 
   abbrev least' : ℕ
   least' = larger_number k' (minus a.efs a.lss)
 
-  abbrev greatest' : Bound
+  abbrev greatest' : Option ℕ
   greatest' = smaller a.greatest (minus a.lfs a.ess)
 
   again : normal (normal a) ≡ normal a
@@ -352,8 +351,8 @@ module _ (a : Annotation) (n : NearAll a) (o t1 t2 : ℕ) (m : Admits o a t1 t2)
       n.greatest n.lfs n.ess n.lss n.efs m.short m.lfs m.ess m.lss m.efs in
       simp (
         larger_keeps ess' (minus efs' greatest') ess,
-        smaller_keeps lss' (minus lfs' (At least')) lss,
-        larger_keeps efs' (plus ess' (At least')) efs,
+        smaller_keeps lss' (minus lfs' (Some least')) lss,
+        larger_keeps efs' (plus ess' (Some least')) efs,
         smaller_keeps lfs' (plus lss' greatest') lfs,
         number_keeps least' (minus efs' lss') least,
         smaller_keeps greatest' (minus lfs' ess') greatest,

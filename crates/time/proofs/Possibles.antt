@@ -9,8 +9,6 @@ use Rattle.rules.specs.declared.Refusal.TheVariants.{NoInterval, NormalRange}
 use Rattle.time.specs.Annotations.{base, annotation_of, annotation_in_range, NotSooner, NotLater, NotLonger, Admits}
 use Rattle.time.specs.Normal.{normal, Possible, numbers_of, Normalised, no_interval, normal_range, done}
 use Rattle.time.specs.Search.{low, high, window_to, far, window, finish, soonest, starts_from, NearBound, NearAll}
-use Rattle.time.specs.declared.Bound.{Bound}
-use Rattle.time.specs.declared.Bound.TheVariants.{Open, At}
 use Rattle.time.specs.declared.Annotation.{Annotation}
 use Rattle.time.specs.declared.Window.{Window}
 use Rattle.time.proofs.Tests.{clash}
@@ -27,51 +25,51 @@ use Rattle.time.proofs.Windows.{
   finish_small,
   nearer,
 }
-use Rattle.std.specs.Prelude.{Err}
+use Rattle.std.specs.Prelude.{Err, Option, None, Some}
 use Rattle.rules.specs.Answers.{Done}
 
 -- an interval that starts before place 0 of the line that has the reference point at base: no bound holds it back, so one starts at 0
 module _ (o r t1 t2 k : ℕ) (under : t1 + (base + base) < r + o) (small : k ≤ 5000000000) (long : t1 + k ≤ t2 + base) (low' : base ≤ k)
   where
-    abbrev u2 : Bound → ℕ
+    abbrev u2 : Option ℕ → ℕ
     u2 efs = max (low efs base) (0 + k - base)
 
-    no_ess : (x : Bound) → NearBound x → NotSooner o r x t1 → low x base ≤ 0
-    no_ess Open h p = omega arith
-    no_ess (At v) h p = absurd (omega arith)
+    no_ess : (x : Option ℕ) → NearBound x → NotSooner o r x t1 → low x base ≤ 0
+    no_ess None h p = omega arith
+    no_ess (Some v) h p = absurd (omega arith)
 
-    under_lfs : (x y : Bound) → NearBound x → NearBound y → NotLater o r x t2 → NotSooner o r y t2 → u2 y ≤ high far x base
-    under_lfs Open Open hx hy p q = omega arith
-    under_lfs Open (At w) hx hy p q = omega arith
-    under_lfs (At v) Open hx hy p q = omega arith
-    under_lfs (At v) (At w) hx hy p q = omega arith
+    under_lfs : (x y : Option ℕ) → NearBound x → NearBound y → NotLater o r x t2 → NotSooner o r y t2 → u2 y ≤ high far x base
+    under_lfs None None hx hy p q = omega arith
+    under_lfs None (Some w) hx hy p q = omega arith
+    under_lfs (Some v) None hx hy p q = omega arith
+    under_lfs (Some v) (Some w) hx hy p q = omega arith
 
     under_short :
-        (d y : Bound) → NearBound d → NearBound y → NotLonger d t1 t2 → NotSooner o r y t2 → u2 y + base ≤ 0 + high far d base
-    under_short Open Open hd hy p q = omega arith
-    under_short Open (At w) hd hy p q = omega arith
-    under_short (At d) Open hd hy p q = omega arith
-    under_short (At d) (At w) hd hy p q = absurd (omega arith)
+        (d y : Option ℕ) → NearBound d → NearBound y → NotLonger d t1 t2 → NotSooner o r y t2 → u2 y + base ≤ 0 + high far d base
+    under_short None None hd hy p q = omega arith
+    under_short None (Some w) hd hy p q = omega arith
+    under_short (Some d) None hd hy p q = omega arith
+    under_short (Some d) (Some w) hd hy p q = absurd (omega arith)
 
 -- any other, moved to that line
 module _ (o r : ℕ) (near : r ≤ 5000000000) where
   moved : ℕ → ℕ
   moved t = t + (base + base) - (r + o)
 
-  moved_low : (x : Bound) (t : ℕ) → r + o ≤ t + (base + base) → NotSooner o r x t → NotSooner (base + base - r) r x (moved t)
+  moved_low : (x : Option ℕ) (t : ℕ) → r + o ≤ t + (base + base) → NotSooner o r x t → NotSooner (base + base - r) r x (moved t)
   unfolding moved
-  moved_low Open t l p = tt
-  moved_low (At v) t l p = omega arith
+  moved_low None t l p = tt
+  moved_low (Some v) t l p = omega arith
 
-  moved_high : (x : Bound) (t : ℕ) → r + o ≤ t + (base + base) → NotLater o r x t → NotLater (base + base - r) r x (moved t)
+  moved_high : (x : Option ℕ) (t : ℕ) → r + o ≤ t + (base + base) → NotLater o r x t → NotLater (base + base - r) r x (moved t)
   unfolding moved
-  moved_high Open t l p = tt
-  moved_high (At v) t l p = omega arith
+  moved_high None t l p = tt
+  moved_high (Some v) t l p = omega arith
 
-  moved_short : (x : Bound) (t1 t2 : ℕ) → r + o ≤ t1 + (base + base) → t1 ≤ t2 → NotLonger x t1 t2 → NotLonger x (moved t1) (moved t2)
+  moved_short : (x : Option ℕ) (t1 t2 : ℕ) → r + o ≤ t1 + (base + base) → t1 ≤ t2 → NotLonger x t1 t2 → NotLonger x (moved t1) (moved t2)
   unfolding moved
-  moved_short Open t1 t2 l u p = tt
-  moved_short (At v) t1 t2 l u p = omega arith
+  moved_short None t1 t2 l u p = tt
+  moved_short (Some v) t1 t2 l u p = omega arith
 
 module _ (a : Annotation) (n : NearAll a) where
   abbrev r : ℕ

@@ -6,8 +6,7 @@ use borrow.Author.Tests.{leb-true}
 use lib.Dec.{leb}
 use Rattle.time.specs.Annotations.{base, in_range, bound_in_range, annotation_in_range}
 use Rattle.time.specs.Search.{Near, NearBound, NearAll}
-use Rattle.time.specs.declared.Bound.{Bound}
-use Rattle.time.specs.declared.Bound.TheVariants.{Open, At}
+use Rattle.std.specs.Prelude.{Option, None, Some}
 use Rattle.time.specs.declared.Annotation.{Annotation}
 use Rattle.time.proofs.Tests.{first, second}
 
@@ -17,9 +16,9 @@ near v e =
     let high = leb v 5000000000 in
     (leb-true 3000000000 v (first low high e), leb-true v 5000000000 (second low high e))
 
-near_bound : (x : Bound) → bound_in_range x ≡ true → NearBound x
-near_bound Open e = tt
-near_bound (At v) e = near v e
+near_bound : (x : Option ℕ) → bound_in_range x ≡ true → NearBound x
+near_bound None e = tt
+near_bound (Some v) e = near v e
 
 module _ (a : Annotation) where
   abbrev c1 : Bool

@@ -10,8 +10,7 @@ use lib.Dec.{leb}
 use Rattle.time.specs.Annotations.{base, Exactly}
 use Rattle.time.specs.Patterns.{Satisfies}
 use Rattle.time.specs.Search.{low, high, far, window, admitted, first_of, last_of, Near, NearBound, NearAll}
-use Rattle.time.specs.declared.Bound.{Bound}
-use Rattle.time.specs.declared.Bound.TheVariants.{Open, At}
+use Rattle.std.specs.Prelude.{Option, None, Some}
 use Rattle.time.specs.declared.Annotation.{Annotation}
 use Rattle.time.proofs.Tests.{clash}
 use Rattle.time.proofs.Windows.{Within, admitted_sound, admitted_complete, from_window, to_window}
@@ -25,31 +24,31 @@ pub record Whole (τ : ℕ → Bool) (b past : ℕ) : Type 0 where
 
 -- where an interval of a run starts and finishes: at the run's end or at the bound
 module _ (r : ℕ) (near : Near r) where
-  pub start_flank : (x : Bound) (b : ℕ) → NearBound x → (max (low x r) b ≡ b) ⊎ Exactly base r x (max (low x r) b)
-  start_flank Open b h = inl (omega arith)
-  start_flank (At v) b h = go (leb (r + v - base) b) refl
+  pub start_flank : (x : Option ℕ) (b : ℕ) → NearBound x → (max (low x r) b ≡ b) ⊎ Exactly base r x (max (low x r) b)
+  start_flank None b h = inl (omega arith)
+  start_flank (Some v) b h = go (leb (r + v - base) b) refl
     where
       go : (y : Bool) → leb (r + v - base) b ≡ y → (max (r + v - base) b ≡ b) ⊎ (r + v + base ≡ max (r + v - base) b + (base + base))
       go true e = inl (omega (arith, leb-true))
       go false e = inr (omega (arith, leb-false))
 
-  pub start_is : (x : Bound) (b t : ℕ) → NearBound x → b ≤ t → low x r ≤ t → (b ≡ t) ⊎ Exactly base r x t → max (low x r) b ≡ t
+  pub start_is : (x : Option ℕ) (b t : ℕ) → NearBound x → b ≤ t → low x r ≤ t → (b ≡ t) ⊎ Exactly base r x t → max (low x r) b ≡ t
   start_is x b t h l n (inl e) = omega arith
-  start_is Open b t h l n (inr e) = absurd e
-  start_is (At v) b t h l n (inr e) = omega arith
+  start_is None b t h l n (inr e) = absurd e
+  start_is (Some v) b t h l n (inr e) = omega arith
 
-  finish_flank : (x : Bound) (e : ℕ) → NearBound x → e ≤ far → (min (high far x r) e ≡ e) ⊎ Exactly base r x (min (high far x r) e)
-  finish_flank Open e h l = inl (omega arith)
-  finish_flank (At v) e h l = go (leb e (r + v - base)) refl
+  finish_flank : (x : Option ℕ) (e : ℕ) → NearBound x → e ≤ far → (min (high far x r) e ≡ e) ⊎ Exactly base r x (min (high far x r) e)
+  finish_flank None e h l = inl (omega arith)
+  finish_flank (Some v) e h l = go (leb e (r + v - base)) refl
     where
       go : (y : Bool) → leb e (r + v - base) ≡ y → (min (r + v - base) e ≡ e) ⊎ (r + v + base ≡ min (r + v - base) e + (base + base))
       go true q = inl (omega (arith, leb-true))
       go false q = inr (omega (arith, leb-false))
 
-  finish_is : (x : Bound) (e t : ℕ) → NearBound x → t ≤ e → t ≤ high far x r → (t ≡ e) ⊎ Exactly base r x t → min (high far x r) e ≡ t
+  finish_is : (x : Option ℕ) (e t : ℕ) → NearBound x → t ≤ e → t ≤ high far x r → (t ≡ e) ⊎ Exactly base r x t → min (high far x r) e ≡ t
   finish_is x e t h l n (inl q) = omega arith
-  finish_is Open e t h l n (inr q) = absurd q
-  finish_is (At v) e t h l n (inr q) = omega arith
+  finish_is None e t h l n (inr q) = absurd q
+  finish_is (Some v) e t h l n (inr q) = omega arith
 
 module _ (a : Annotation) (n : NearAll a) (τ : ℕ → Bool) where
   abbrev r : ℕ

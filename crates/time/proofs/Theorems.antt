@@ -10,8 +10,7 @@ use Rattle.time.specs.Annotations.{counted, none, bound_of, annotation_of, annot
 use Rattle.time.specs.Patterns.{true_at, in_order, Satisfied, Satisfiable}
 use Rattle.time.specs.Normal.{normal, Possible, plain, number_of, numbers_of, Normalised, done}
 use Rattle.time.specs.Search.{Near, NearBound, NearAll}
-use Rattle.time.specs.declared.Bound.{Bound}
-use Rattle.time.specs.declared.Bound.TheVariants.{Open, At}
+use Rattle.std.specs.Prelude.{Option, None, Some}
 use Rattle.time.specs.declared.Annotation.{Annotation}
 use Rattle.time.proofs.Ranges.{near_all}
 use Rattle.time.proofs.Continued.{still_satisfiable}
@@ -36,9 +35,9 @@ same_intervals a ranged origin t1 t2 =
 code_back : (v : ℕ) → Near v → counted (plain v) ≡ v
 code_back v h = omega arith
 
-bound_back : (b : Bound) → NearBound b → bound_of (number_of b) ≡ b
-bound_back Open h = refl
-bound_back (At v) h = simp (ne_eqb (plain v) none (omega arith)) (ap At (code_back v h))
+bound_back : (b : Option ℕ) → NearBound b → bound_of (number_of b) ≡ b
+bound_back None h = refl
+bound_back (Some v) h = simp (ne_eqb (plain v) none (omega arith)) (ap Some (code_back v h))
 
 read_back : (a : Annotation) → NearAll a → annotation_of (numbers_of a) ≡ a
 read_back a n =

@@ -22,21 +22,19 @@ use Rattle.time.specs.Patterns.{
   neither,
 }
 use Rattle.time.specs.Normal.{Normalised, value_range, no_interval, normal_range, done}
-use Rattle.time.specs.declared.Bound.{Bound}
-use Rattle.time.specs.declared.Bound.TheVariants.{Open, At}
 use Rattle.time.specs.declared.Annotation.{Annotation}
 use Rattle.time.specs.declared.Judgement.{Judgement}
 use Rattle.time.specs.declared.Judgement.TheVariants as judgement
 use Rattle.time.proofs.Tests.{clash}
 use Rattle.time.proofs.Histories.{order}
 use Rattle.time.proofs.Theorems.{satisfied_is_satisfiable}
-use Rattle.std.specs.Prelude.{Err}
+use Rattle.std.specs.Prelude.{Err, Option, None, Some, Result, Ok}
 use Rattle.rules.specs.Answers.{Outcome, Done}
 
 -- a finish at the bound is the last that is possible
-last_at : (r : ℕ) (x : Bound) (t u : ℕ) → Exactly base r x t → NotLater base r x u → u ≤ t
-last_at r Open t u e l = absurd e
-last_at r (At v) t u e l = omega arith
+last_at : (r : ℕ) (x : Option ℕ) (t u : ℕ) → Exactly base r x t → NotLater base r x u → u ≤ t
+last_at r None t u e l = absurd e
+last_at r (Some v) t u e l = omega arith
 
 -- of two intervals that satisfy and start together none goes on beyond the other
 no_longer : (a : Annotation) (τ : ℕ → Bool) (t1 t2 u2 : ℕ) → Satisfies a τ t1 t2 → Satisfies a τ t1 u2 → u2 ≤ t2
@@ -80,13 +78,13 @@ module _ (l h : List ℕ) (z : ℕ) where
   not_neither t1 t2 c x n =
       n (satisfied_is_satisfiable a h (counted z) (order h (counted z) a c) (record { t1 = t1; t2 = t2; satisfies = x }))
 
-  pub judged_once : {x y : Judgement} → Judged l h z x → Judged l h z y → x ≡ y
-  judged_once (refused d) (refused e) = ap judgement.Refused (same_reason d e)
+  pub judged_once : {x y : Result Judgement Refusal} → Judged l h z x → Judged l h z y → x ≡ y
+  judged_once (refused d) (refused e) = ap Err (same_reason d e)
   judged_once (refused d) (satisfied u1 u2 c y m) = done_or_refused c d
   judged_once (refused d) (satisfiable c n y) = done_or_refused c d
   judged_once (refused d) (neither c n) = done_or_refused c d
   judged_once (satisfied t1 t2 c x k) (refused e) = done_or_refused c e
-  judged_once (satisfied t1 t2 c x k) (satisfied u1 u2 c' y m) = same_interval t1 t2 u1 u2 x y (k u1 u2 y) (m t1 t2 x)
+  judged_once (satisfied t1 t2 c x k) (satisfied u1 u2 c' y m) = ap Ok (same_interval t1 t2 u1 u2 x y (k u1 u2 y) (m t1 t2 x))
   judged_once (satisfied t1 t2 c x k) (satisfiable c' n y) = absurd (n (record { t1 = t1; t2 = t2; satisfies = x }))
   judged_once (satisfied t1 t2 c x k) (neither c' n) = absurd (not_neither t1 t2 c x n)
   judged_once (satisfiable c n y) (refused e) = done_or_refused c e

@@ -1,46 +1,44 @@
 -- Document 001's six formulas for the normal form of an annotation, and what normalising answers and leaves. Assumes nothing.
-use Rattle.std.specs.Prelude.{ℕ, ◌+◌, ◌-◌, ◌%◌, ◌^◌, max, min, ◌≡◌, true, false, List, [], ◌∷◌, Err}
+use Rattle.std.specs.Prelude.{ℕ, ◌+◌, ◌-◌, ◌%◌, ◌^◌, max, min, ◌≡◌, true, false, List, [], ◌∷◌, Err, Option, None, Some}
 use Rattle.rules.specs.declared.Refusal.TheVariants.{ValueRange, NoInterval, NormalRange}
 use Rattle.time.specs.Annotations.{base, none, annotation_of, annotation_in_range, Admits}
-use Rattle.time.specs.declared.Bound.{Bound}
-use Rattle.time.specs.declared.Bound.TheVariants.{Open, At}
 use Rattle.time.specs.declared.Annotation.{Annotation}
 use Rattle.rules.specs.Answers.{Outcome, Done}
 
 -- The formulas' max, min, - and +. An open bound is infinite: of a start's or finish's earliest minute downward, of all others upward, so
 -- that a sum or difference is open as soon as one side is.
-abbrev pub larger : Bound → Bound → Bound
-larger Open y = y
-larger (At v) Open = At v
-larger (At v) (At w) = At (max v w)
+abbrev pub larger : Option ℕ → Option ℕ → Option ℕ
+larger None y = y
+larger (Some v) None = Some v
+larger (Some v) (Some w) = Some (max v w)
 
-abbrev pub smaller : Bound → Bound → Bound
-smaller Open y = y
-smaller (At v) Open = At v
-smaller (At v) (At w) = At (min v w)
+abbrev pub smaller : Option ℕ → Option ℕ → Option ℕ
+smaller None y = y
+smaller (Some v) None = Some v
+smaller (Some v) (Some w) = Some (min v w)
 
-abbrev pub minus : Bound → Bound → Bound
-minus Open y = Open
-minus (At v) Open = Open
-minus (At v) (At w) = At (v + base - w)
+abbrev pub minus : Option ℕ → Option ℕ → Option ℕ
+minus None y = None
+minus (Some v) None = None
+minus (Some v) (Some w) = Some (v + base - w)
 
-abbrev pub plus : Bound → Bound → Bound
-plus Open y = Open
-plus (At v) Open = Open
-plus (At v) (At w) = At (v + w - base)
+abbrev pub plus : Option ℕ → Option ℕ → Option ℕ
+plus None y = None
+plus (Some v) None = None
+plus (Some v) (Some w) = Some (v + w - base)
 
 -- of the least duration, which is never open
-abbrev pub larger_number : ℕ → Bound → ℕ
-larger_number v Open = v
-larger_number v (At w) = max v w
+abbrev pub larger_number : ℕ → Option ℕ → ℕ
+larger_number v None = v
+larger_number v (Some w) = max v w
 
 -- all six from the old values
 unfoldable pub normal : Annotation → Annotation
 normal a =
     record {
       ess = larger a.ess (minus a.efs a.greatest);
-      lss = smaller a.lss (minus a.lfs (At a.least));
-      efs = larger a.efs (plus a.ess (At a.least));
+      lss = smaller a.lss (minus a.lfs (Some a.least));
+      efs = larger a.efs (plus a.ess (Some a.least));
       lfs = smaller a.lfs (plus a.lss a.greatest);
       least = larger_number a.least (minus a.efs a.lss);
       greatest = smaller a.greatest (minus a.lfs a.ess);
@@ -58,9 +56,9 @@ pub record Possible (a : Annotation) : Type 0 where
 abbrev pub plain : ℕ → ℕ
 plain v = (v + (2 ^ 64 - base)) % 2 ^ 64
 
-abbrev pub number_of : Bound → ℕ
-number_of Open = none
-number_of (At v) = plain v
+abbrev pub number_of : Option ℕ → ℕ
+number_of None = none
+number_of (Some v) = plain v
 
 abbrev pub numbers_of : Annotation → List ℕ
 numbers_of a =

@@ -1,6 +1,6 @@
 -- Document 003, section 13.2, and document 02 (iii): histories, when a pattern is satisfied and when it still can be, and what a question
 -- is answered. Assumes nothing.
-use Rattle.std.specs.Prelude.{ℕ, zero, suc, ◌+◌, ◌/◌, ◌%◌, ◌^◌, ◌≤◌, ◌<◌, ◌≡◌, ◌⊎◌, Bool, true, false, cond, not, ◌&&◌, List, length, get_or, eqb, leb, Err}
+use Rattle.std.specs.Prelude.{ℕ, zero, suc, ◌+◌, ◌/◌, ◌%◌, ◌^◌, ◌≤◌, ◌<◌, ◌≡◌, ◌⊎◌, Bool, true, false, cond, not, ◌&&◌, List, length, get_or, eqb, leb, Result, Ok, Err}
 use Rattle.std.proofs.Math.Dec.{ltb}
 use Rattle.rules.specs.Answers.{◌and_then◌, refuse_if, Outcome, Done}
 use Rattle.rules.specs.declared.Refusal.{Refusal}
@@ -95,13 +95,13 @@ module _ (l h : List ℕ) (z : ℕ) where
   abbrev pub τ : ℕ → Bool
   τ = true_at h (counted z)
 
-  pub data Judged : Judgement → Type 0 where
-    refused : {why : Refusal} → the_check ≡ Err why → Judged (judgement.Refused why)
+  pub data Judged : Result Judgement Refusal → Type 0 where
+    refused : {why : Refusal} → the_check ≡ Err why → Judged (Err why)
     -- with the earliest interval that satisfies
     satisfied :
         (t1 t2 : ℕ) → the_check ≡ Done → Satisfies (annotation_of l) τ t1 t2
         → ((u1 u2 : ℕ) → Satisfies (annotation_of l) τ u1 u2 → t1 ≤ u1)
-        → Judged (judgement.Satisfied t1 t2)
+        → Judged (Ok (judgement.Satisfied t1 t2))
     satisfiable :
-        the_check ≡ Done → (Satisfied (annotation_of l) τ → ⊥) → Satisfiable (annotation_of l) τ (counted z) → Judged judgement.Satisfiable
-    neither : the_check ≡ Done → (Satisfiable (annotation_of l) τ (counted z) → ⊥) → Judged judgement.Neither
+        the_check ≡ Done → (Satisfied (annotation_of l) τ → ⊥) → Satisfiable (annotation_of l) τ (counted z) → Judged (Ok judgement.Satisfiable)
+    neither : the_check ≡ Done → (Satisfiable (annotation_of l) τ (counted z) → ⊥) → Judged (Ok judgement.Neither)

@@ -1,10 +1,8 @@
 -- How the code decides: one pass over the samples, and of each run of true minutes the one interval that can satisfy. Nobody has to
 -- believe this: proofs/ shows that it decides what `Patterns` and `Normal` define. Assumes nothing.
-use Rattle.std.specs.Prelude.{ℕ, zero, suc, ◌+◌, ◌-◌, ◌*◌, ◌^◌, ◌≤◌, max, min, Bool, true, false, ◌&&◌, ◌||◌, List, length, leb}
+use Rattle.std.specs.Prelude.{ℕ, zero, suc, ◌+◌, ◌-◌, ◌*◌, ◌^◌, ◌≤◌, max, min, Bool, true, false, ◌&&◌, ◌||◌, List, length, leb, Option, None, Some}
 use Rattle.time.specs.Annotations.{base}
 use Rattle.time.specs.Patterns.{minute_at, truth_at}
-use Rattle.time.specs.declared.Bound.{Bound}
-use Rattle.time.specs.declared.Bound.TheVariants.{Open, At}
 use Rattle.time.specs.declared.Annotation.{Annotation}
 use Rattle.time.specs.declared.Window.{Window}
 use Rattle.time.specs.declared.Pass.{Pass}
@@ -13,13 +11,13 @@ use Rattle.time.specs.declared.Judgement.{Judgement}
 use Rattle.time.specs.declared.Judgement.TheVariants.{Satisfied, Satisfiable, Neither}
 
 -- a bound with the reference point added; an open one lies before all minutes, or beyond those that are asked about
-abbrev pub low : Bound → ℕ → ℕ
-low Open r = 0
-low (At v) r = r + v - base
+abbrev pub low : Option ℕ → ℕ → ℕ
+low None r = 0
+low (Some v) r = r + v - base
 
-abbrev pub high : ℕ → Bound → ℕ → ℕ
-high beyond Open r = beyond
-high beyond (At v) r = r + v - base
+abbrev pub high : ℕ → Option ℕ → ℕ → ℕ
+high beyond None r = beyond
+high beyond (Some v) r = r + v - base
 
 abbrev pub window_to : ℕ → Annotation → ℕ → Window
 window_to beyond a r =
@@ -146,9 +144,9 @@ NamedPass (Since b) = Named b
 abbrev pub Near : ℕ → Type 0
 Near v = (3000000000 ≤ v) × (v ≤ 5000000000)
 
-abbrev pub NearBound : Bound → Type 0
-NearBound Open = Unit
-NearBound (At v) = Near v
+abbrev pub NearBound : Option ℕ → Type 0
+NearBound None = Unit
+NearBound (Some v) = Near v
 
 pub record NearAll (a : Annotation) : Type 0 where
   pub ess : NearBound a.ess

@@ -2,38 +2,30 @@
 // specs/, their laws in proofs/; the code that decides them is crate `pattern`. Assumes nothing.
 #![tactic(auto)]
 
-use rules::Refusal;
-
-// A bound of an annotation: none, or a number of minutes z as z + 4,000,000,000.
-#[derive(Clone, Copy)]
-pub enum Bound {
-    Open,
-    At(u64),
-}
-
-// A time annotation: four shifts from a reference point, and two durations. Numbers are coded as a bound's are.
+// A time annotation: four shifts from a reference point, and two durations. A number of minutes z is coded as z + 4,000,000,000; a bound
+// that is open is None.
 #[derive(Clone, Copy)]
 pub struct Annotation {
-    pub ess: Bound,
-    pub lss: Bound,
-    pub efs: Bound,
-    pub lfs: Bound,
+    pub ess: Option<u64>,
+    pub lss: Option<u64>,
+    pub efs: Option<u64>,
+    pub lfs: Option<u64>,
     pub least: u64,
-    pub greatest: Bound,
+    pub greatest: Option<u64>,
     pub reference: u64,
 }
 
-// What a question about a pattern is answered: satisfied, with the earliest interval that satisfies; not yet, but it still can be; or
-// neither.
-#[derive(Drop)]
+// What a question about a pattern is answered that is not refused: satisfied, with the earliest interval that satisfies; not yet, but it
+// still can be; or neither.
+#[derive(Clone, Copy)]
 pub enum Judgement {
     Satisfied { first: u64, last: u64 },
     Satisfiable,
     Neither,
-    Refused(Refusal),
 }
 
-// How the code decides: the bounds of an annotation as minutes, an open one as a minute beyond all that are asked about.
+// How the code decides: the bounds of an annotation as minutes, an open one as a minute beyond all that are asked about. Numbers and no
+// Options here: each test of a window is then one comparison, with no case for an open bound.
 #[derive(Clone, Copy)]
 pub struct Window {
     pub ess: u64,
@@ -45,7 +37,7 @@ pub struct Window {
 }
 
 // How the code decides: what a pass over the samples has come to. An interval that satisfies, no run of true minutes, or one that goes on
-// since a minute.
+// since a minute. Three ways with a value each of its own, so neither an Option nor a Result.
 #[derive(Clone, Copy)]
 pub enum Pass {
     Found { first: u64, last: u64 },
