@@ -10,12 +10,9 @@ pub fn put(piece: &[u8], out: &mut [u8], at: usize) -> usize
     requires { at + length piece.now ≤ length out.old }
     ensures { Appended out.old at piece.now out.new result }
 {
-    let mut i = 0;
-    while i < piece.len() {
-        out[at + i] = piece[i];
-        i += 1;
-    }
-    at + i
+    let end = at + piece.len();
+    out[at..end].copy_from_slice(piece);
+    end
 }
 
 // Puts one byte there.

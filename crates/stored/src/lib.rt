@@ -25,19 +25,12 @@ pub fn take_states(stored: &[u8], n: usize, states: &mut [u8])
     }
 }
 
-// A part of check 11: the lowest of n plans with a filler byte that is not 0, or n.
-pub fn lowest_filled(stored: &[u8], n: usize) -> usize
+// A part of check 11: the lowest of n plans with a filler byte that is not 0.
+pub fn lowest_filled(stored: &[u8], n: usize) -> Option<usize>
     requires { 8 * n ≤ length stored.now }
     ensures { Lowest (filled stored.now) n result }
 {
-    let mut p = 0;
-    while p < n {
-        if is_filled(stored, p) {
-            return p;
-        }
-        p += 1;
-    }
-    p
+    (0..n).find(|&p| is_filled(stored, p))
 }
 
 // Whether plan p has such a byte.
@@ -53,14 +46,7 @@ pub fn is_reached(number: u32, stored: &[u8], n: usize) -> bool
     requires { 8 * n ≤ length stored.now }
     ensures { result ≡ some_below (λ p. leb number (since_at stored.now p)) n }
 {
-    let mut p = 0;
-    while p < n {
-        if number <= u32_at(stored, 8 * p + 4) {
-            return true;
-        }
-        p += 1;
-    }
-    false
+    (0..n).any(|p| number <= u32_at(stored, 8 * p + 4))
 }
 
 // Lays down what a step with this number leaves of n plans, once their new states are known.
@@ -108,18 +94,6 @@ fn put_eight(state: u8, since: u32, stored: &mut [u8], at: usize) -> usize
     requires { at + 8 ≤ length stored.old }
     ensures { Appended stored.old at (eight_bytes state since) stored.new result }
 {
-    put(
-        &[
-            state,
-            0,
-            0,
-            0,
-            (since % 256) as u8,
-            (since / 256 % 256) as u8,
-            (since / 65536 % 256) as u8,
-            (since / 16777216 % 256) as u8,
-        ],
-        stored,
-        at,
-    )
+    let [a, b, c, d] = since.to_le_bytes();
+    put(&[state, 0, 0, 0, a, b, c, d], stored, at)
 }
