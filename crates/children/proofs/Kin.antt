@@ -2,7 +2,7 @@
 use mathlib.Core.Path.{◌≡◌, refl, sym, ap, ◌∙◌}
 use mathlib.Core.List.{List, [], ◌∷◌, ◌++◌, map, map-append, append-nil}
 use mathlib.Core.Bool.{Bool, true, false, cond, ◌&&◌, ◌||◌, or-false, or_assoc, false≢true}
-use Prim.Native.Nat.{ℕ, zero, suc, ◌+◌, ◌*◌, ◌^◌, ◌≤◌, ◌<◌}
+use Prim.Native.Nat.{ℕ, zero, suc, ◌+◌, ◌*◌, ◌%◌, ◌^◌, ◌≤◌, ◌<◌}
 use native.Mathlib.Decide.{ℕ_discrete}
 use native.Mathlib.Numerals.{add-one}
 use native.Mathlib.Omega.{arith}
@@ -10,12 +10,13 @@ use lib.ListN.{length, get_or, set, length-append, length-map, length-set}
 use lib.Seq.{get_or-set_same, get_or-set_other}
 use lib.Dec.{eqb}
 use borrow.Author.Tests.{eq-eqb, ne_eqb, eqb-true}
+use Rattle.std.proofs.lemmas.Nat.{shl_whole}
 use Rattle.rules.specs.Bytes.{byte_at}
 use Rattle.rules.specs.Lists.{some}
 use Rattle.rules.specs.Table.{parent, is_child, children_before, rank}
 use Rattle.rules.proofs.Digits.{bit}
 use Rattle.children.specs.Sets.{bits, set_before, Rooted, Beyond, Ranked, Collected}
-use Rattle.children.proofs.Bits.{bits_snoc, bits_fit}
+use Rattle.children.proofs.Bits.{bit_le, bits_snoc, bits_fit}
 
 -- one plan more in a list, or none
 pub some_snoc : (f : ℕ → Bool) (xs : List ℕ) (k : ℕ) (b : Bool) → some f (xs ++ cond b (k ∷ []) []) ≡ (some f xs || b && f k)
@@ -231,6 +232,10 @@ module _ (t : List ℕ) (q : ℕ) (f g : ℕ → Bool) where
 set_none : (t : List ℕ) (n : ℕ) → Rooted t n → (f : ℕ → Bool) (q k : ℕ) → k ≤ n → k ≤ suc q → set_before t k q f ≡ 0
 unfolding set_before bits
 set_none t n rooted f q k l h = rw (children_none t n rooted q k l h)
+
+-- the bit of a plan, as the code shifts it by the rank that it has found: nothing is shifted out
+pub shifted : (b : Bool) (v r k : ℕ) → v ≡ bit b → r ≡ k → k < 64 → v * 2 ^ r % 2 ^ 64 ≡ bit b * 2 ^ k
+shifted b v r k ev er small = rw (ev, er) (shl_whole (bit b) 1 k 64 (omega (arith, bit_le b)) (omega arith))
 
 -- what `collect_named` knows before its turn at plan p
 pub record Collecting (t : List ℕ) (n : ℕ) (f : ℕ → Bool) (words₀ : List ℕ) (p : ℕ) (words : List ℕ) : Type 0 where

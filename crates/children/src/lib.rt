@@ -41,7 +41,7 @@ pub fn collect_named(table: &[u8], n: usize, ranks: &[u8], words: &mut [u64])
     words[0] = 0;
     for p in 1..n {
         let q = parent_at(table, p);
-        let bit = bit_if(entry_at(table, p).is_named(), ranks[p]);
+        let bit = u64::from(entry_at(table, p).is_named()) << ranks[p];
         words[p] = 0;
         words[q] += bit;
     }
@@ -59,8 +59,8 @@ pub fn survey(table: &[u8], n: usize, ranks: &[u8], states: &[u8], sets: &mut [u
 {
     for p in 1..n {
         let q = parent_at(table, p);
-        let at = q * 9 + wide(states[p]);
-        sets[at] += bit_if(true, ranks[p]);
+        let at = q * 9 + usize::from(states[p]);
+        sets[at] += 1u64 << ranks[p];
     }
 }
 
@@ -80,25 +80,10 @@ pub fn resurvey(table: &[u8], n: usize, ranks: &[u8], old: &[u8], new: &[u8], se
             continue;
         }
         let q = parent_at(table, p);
-        let bit = bit_if(true, ranks[p]);
-        let from = q * 9 + wide(old[p]);
-        let to = q * 9 + wide(new[p]);
+        let bit = 1u64 << ranks[p];
+        let from = q * 9 + usize::from(old[p]);
+        let to = q * 9 + usize::from(new[p]);
         sets[from] -= bit;
         sets[to] += bit;
     }
-}
-
-// The bit of a rank, if it is to be set.
-fn bit_if(set: bool, rank: u8) -> u64
-    requires { rank < 64 }
-    ensures { result ≡ cond set 1 0 * 2 ^ rank }
-{
-    if set { 1u64 << rank } else { 0 }
-}
-
-// A byte as an index: named, so that a reader of it has its bound.
-fn wide(x: u8) -> usize
-    ensures { result ≡ x }
-{
-    x as usize
 }

@@ -1,6 +1,6 @@
 -- `survey` meets its contract: a turn at plan p adds p's bit to its parent's word for p's state. Assumes nothing.
-use Rattle.std.proofs.Common.{ℕ, ◌^◌, ap, ◌∙◌, arith}
-use Rattle.children.proofs.Kin.{survey_turn, surveyed_root, beyond_none}
+use Rattle.std.proofs.Common.{true, refl, ◌∙◌, arith}
+use Rattle.children.proofs.Kin.{shifted, survey_turn, surveyed_root, beyond_none}
 use Rattle.children.proofs.survey.Goals as goal
 
 pub loop-p-init : goal.loop-p-init
@@ -16,20 +16,20 @@ loop-p-init c =
 pub overflow_add-sets : goal.overflow_add-sets
 overflow_add-sets c =
     let inside = c.loop-p-test.true in
-    let state = c.wide.ensures in
+    let state = c.from.ensures in
     record {
       fits =
           (survey_turn _ _ _ _ c.requires.rooted _ _ c.loop-p.invariant inside (c.requires.narrow.narrow _ inside) _ _ _ c.parent_at-q.ensures
           state
           (rw state (c.requires.codes _ inside))
-          (c.bit_if.ensures ∙ omega (arith, ap (λ (r : ℕ). 2 ^ r) (c.requires.narrow.ranked _ inside)))).fits;
+          (shifted true 1 _ _ refl (c.requires.narrow.ranked _ inside) (c.requires.narrow.narrow _ inside) ∙ omega arith)).fits;
     }
 
 pub loop-p-preserved : goal.loop-p-preserved
 loop-p-preserved c =
     let inside = c.loop-p-test.true in
-    let state = c.wide.ensures in
+    let state = c.from.ensures in
     (survey_turn _ _ _ _ c.requires.rooted _ _ c.loop-p.invariant inside (c.requires.narrow.narrow _ inside) _ _ _ c.parent_at-q.ensures
     state
     (rw state (c.requires.codes _ inside))
-    (c.bit_if.ensures ∙ omega (arith, ap (λ (r : ℕ). 2 ^ r) (c.requires.narrow.ranked _ inside)))).next
+    (shifted true 1 _ _ refl (c.requires.narrow.ranked _ inside) (c.requires.narrow.narrow _ inside) ∙ omega arith)).next
