@@ -1,2 +1,3 @@
 -- Laws of such a search.
 pub mod Lowest
+pub mod Ranges

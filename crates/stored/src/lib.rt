@@ -86,7 +86,7 @@ fn since_after(number: u32, old: PlanState, new: PlanState, since: u32) -> u32
 fn enters(old: PlanState, new: PlanState) -> bool
     ensures { result ≡ enters old new }
 {
-    ((old == PlanState::Ready) | (old == PlanState::Suspended)) & (new == PlanState::Activated)
+    matches!(old, PlanState::Ready | PlanState::Suspended) && new == PlanState::Activated
 }
 
 // Puts a plan's eight bytes there.

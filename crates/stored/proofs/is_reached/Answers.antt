@@ -1,0 +1,7 @@
+-- `is_reached` meets its contract: its closure computes the test. Assumes nothing.
+use Rattle.std.proofs.Common.{rules}
+use Rattle.lowest.proofs.Ranges.{some_from_any}
+use Rattle.stored.proofs.is_reached.Goals as goal
+
+pub returns : goal.returns
+returns c = some_from_any _ _ _ _ _ c.any.ensures.ran (λ x b q k. search rules)
