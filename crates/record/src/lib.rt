@@ -35,7 +35,8 @@ pub fn check(rule: u32, table: &[u8], record: &[u8]) -> Result<u16, Refusal>
 }
 
 // The steps of a record of good form, one after the other, and in each its plans: the first step with a wrong word or with a plan that
-// no picks explain together with the plans before it.
+// no picks explain together with the plans before it. Document 01 asks for this form: nested loops over steps and plans, left by a label
+// with the first unexplained step and plan (the loops may be `for`s, and the place an Option; the label stays).
 fn check_steps(
     rule: u32,
     table: &[u8],

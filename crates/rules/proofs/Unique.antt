@@ -3,7 +3,7 @@
 -- order of the declaration. So a contract that loses its line is found here. Assumes nothing.
 use mathlib.Core.Path.{◌≡◌, sym, ◌∙◌}
 use Rattle.rules.proofs.U8FromPlanState.from.Reads as state_code
-use Rattle.rules.proofs.PlanStateFromU8.from.Reads as state_of_code
+use Rattle.rules.proofs.PlanState.from_byte.Reads as from_byte
 use Rattle.rules.proofs.PlanStatePartialEq.eq.Reads as same_state
 use Rattle.rules.proofs.PlanState.in_selection.Reads as in_selection
 use Rattle.rules.proofs.PlanState.in_execution.Reads as in_execution
@@ -42,7 +42,7 @@ by_equation = record { once = λ κs a z z' e e' h h'. one_answer h h' }
 
 -- the functions of a plan's state, and that of a cause
 pub states_once :
-    OneAnswer state_code.Post × OneAnswer state_of_code.Post × OneAnswer same_state.Post × OneAnswer in_selection.Post
+    OneAnswer state_code.Post × OneAnswer from_byte.Post × OneAnswer same_state.Post × OneAnswer in_selection.Post
     × OneAnswer in_execution.Post × OneAnswer is_ended.Post × OneAnswer has_run.Post × OneAnswer cause_code.Post
 states_once = (by_equation, by_equation, by_equation, by_equation, by_equation, by_equation, by_equation, by_equation)
 

@@ -11,9 +11,8 @@ ghost use Rattle.rules.specs.WaitFor.{joined, asks};
 ghost use Rattle.rules.specs.Answers.{is_rule};
 ghost use Rattle.rules.specs.Words.{pick_of, holds, satisfiable};
 
-// The state of a plan, in the order of the codes.
+// The state of a plan.
 #[derive(Clone, Copy, PartialEq, Eq)]
-#[repr(u8)]
 pub enum PlanState {
     Inactive,
     Considered,
@@ -26,35 +25,44 @@ pub enum PlanState {
     Rejected,
 }
 
-// The code of a state.
-impl From<PlanState> for u8 {
-    ghost from_gives = { λ state b. b ≡ code state };
+impl PlanState {
+    pub const INACTIVE: u8 = 0;
 
-    fn from(state: PlanState) -> u8 {
-        state as u8
-    }
-}
+    pub const CONSIDERED: u8 = 1;
 
-// The state whose code is b. A byte above 8 is no code: check 11 or 15 refuses it, and here it counts as Rejected.
-impl From<u8> for PlanState {
-    ghost from_gives = { λ b state. state ≡ state_of b };
+    pub const POSSIBLE: u8 = 2;
 
-    fn from(b: u8) -> PlanState {
+    pub const READY: u8 = 3;
+
+    pub const ACTIVATED: u8 = 4;
+
+    pub const SUSPENDED: u8 = 5;
+
+    pub const COMPLETED: u8 = 6;
+
+    pub const ABORTED: u8 = 7;
+
+    pub const REJECTED: u8 = 8;
+
+    // The state whose code is b. A byte above 8 is no code: check 11 or 15 refuses it, and here it counts as Rejected. Document 01 asks for
+    // the constants and for this function of the type, so there is no `TryFrom`, which would leave each caller a case that cannot come.
+    pub fn from_byte(b: u8) -> PlanState
+        ensures { result ≡ state_of b }
+    {
         match b {
-            0 => PlanState::Inactive,
-            1 => PlanState::Considered,
-            2 => PlanState::Possible,
-            3 => PlanState::Ready,
-            4 => PlanState::Activated,
-            5 => PlanState::Suspended,
-            6 => PlanState::Completed,
-            7 => PlanState::Aborted,
+            PlanState::INACTIVE => PlanState::Inactive,
+            PlanState::CONSIDERED => PlanState::Considered,
+            PlanState::POSSIBLE => PlanState::Possible,
+            PlanState::READY => PlanState::Ready,
+            PlanState::ACTIVATED => PlanState::Activated,
+            PlanState::SUSPENDED => PlanState::Suspended,
+            PlanState::COMPLETED => PlanState::Completed,
+            PlanState::ABORTED => PlanState::Aborted,
+            PlanState::REJECTED => PlanState::Rejected,
             _ => PlanState::Rejected,
         }
     }
-}
 
-impl PlanState {
     // Whether the plan is in selection.
     pub fn in_selection(self) -> bool
         ensures { result ≡ in_selection self }
@@ -90,6 +98,34 @@ impl PlanState {
             self,
             PlanState::Activated | PlanState::Suspended | PlanState::Completed | PlanState::Aborted
         )
+    }
+}
+
+// The code of a state.
+impl From<PlanState> for u8 {
+    ghost from_gives = { λ state b. b ≡ code state };
+
+    fn from(state: PlanState) -> u8 {
+        match state {
+            PlanState::Inactive => PlanState::INACTIVE,
+            PlanState::Considered => PlanState::CONSIDERED,
+            PlanState::Possible => PlanState::POSSIBLE,
+            PlanState::Ready => PlanState::READY,
+            PlanState::Activated => PlanState::ACTIVATED,
+            PlanState::Suspended => PlanState::SUSPENDED,
+            PlanState::Completed => PlanState::COMPLETED,
+            PlanState::Aborted => PlanState::ABORTED,
+            PlanState::Rejected => PlanState::REJECTED,
+        }
+    }
+}
+
+// FOR A WHILE: callers are to use from_byte.
+impl From<u8> for PlanState {
+    ghost from_gives = { λ b state. state ≡ state_of b };
+
+    fn from(b: u8) -> PlanState {
+        PlanState::from_byte(b)
     }
 }
 
