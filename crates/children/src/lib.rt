@@ -2,7 +2,7 @@
 // Every function here costs O(n) for n plans. Assumes a table whose plans have earlier parents: check 6 sees to it.
 #![tactic(auto)]
 
-ghost use Rattle.std.specs.Prelude.{◌≡◌, ℕ, ◌+◌, ◌*◌, ◌^◌, ◌<◌, ◌≤◌, cond, length};
+ghost use Rattle.std.specs.Prelude.{ℕ, ◌*◌, ◌<◌, ◌≤◌, length};
 ghost use Rattle.children.specs.Sets.{Rooted, Beyond, Empty, Codes, Ranked, Narrow, Collected, Surveyed};
 ghost use Rattle.rules.specs.Bytes.{byte_at};
 ghost use Rattle.rules.specs.Table.{entry, named};

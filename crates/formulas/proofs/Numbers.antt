@@ -1,7 +1,7 @@
 -- The numbers that plans ask for: what each way to ask gives, a turn of the loops that write them, and wait-for by them. Assumes nothing.
 use Prim.Native.Nat.{ℕ, zero, suc, ◌+◌, ◌*◌, ◌≤◌, ◌<◌}
 use native.Mathlib.Omega.{arith}
-use native.Mathlib.Decide.{ℕ_discrete, dec_le}
+use native.Mathlib.Decide.{ℕ_discrete}
 use mathlib.Core.Path.{◌≡◌, refl, sym, ap, ◌∙◌}
 use mathlib.Core.Bool.{Bool, true, false, cond, ◌&&◌}
 use mathlib.Core.List.{List}
@@ -17,28 +17,12 @@ use Rattle.rules.specs.declared.Asks.TheVariants.{Child, Not, Join, AtLeast}
 use Rattle.rules.specs.declared.Node.{Node}
 use Rattle.formulas.specs.Asked.{number_in, number_asked, Numbered}
 
--- a node of kind 5 asks for a number, others do not
-pub number_of : (e : Node) → 5 ≤ e.kind → number_in (asks e) ≡ e.a
-number_of e l = by_kind e.kind refl l
-  where
-    by_kind : (k : ℕ) → e.kind ≡ k → 5 ≤ k → number_in (asks e) ≡ e.a
-    by_kind zero is l = absurd (omega arith)
-    by_kind (suc zero) is l = absurd (omega arith)
-    by_kind (suc (suc zero)) is l = absurd (omega arith)
-    by_kind (suc (suc (suc zero))) is l = absurd (omega arith)
-    by_kind (suc (suc (suc (suc zero)))) is l = absurd (omega arith)
-    by_kind (suc (suc (suc (suc (suc k))))) is l = rw is refl
-
-pub no_number_of : (e : Node) → e.kind < 5 → number_in (asks e) ≡ 256
-no_number_of e l = by_kind e.kind refl l
-  where
-    by_kind : (k : ℕ) → e.kind ≡ k → k < 5 → number_in (asks e) ≡ 256
-    by_kind zero is l = rw is refl
-    by_kind (suc zero) is l = rw is refl
-    by_kind (suc (suc zero)) is l = rw is refl
-    by_kind (suc (suc (suc zero))) is l = rw is refl
-    by_kind (suc (suc (suc (suc zero)))) is l = rw is refl
-    by_kind (suc (suc (suc (suc (suc k))))) is l = absurd (omega arith)
+-- what asks for no number of named children has 256 in its place
+pub no_number : (asked : Asks) → ((m : ℕ) → asked ≡ AtLeast m → ⊥) → 256 ≡ number_in asked
+no_number (Child r) other = refl
+no_number (Not a) other = refl
+no_number (Join how a b) other = refl
+no_number (AtLeast m) other = absurd (other m refl)
 
 module _ (t : List ℕ) (p : ℕ) where
   pub first_number : first_version t ≡ true → (entry t p).wait ≡ number_asked t p
@@ -130,9 +114,16 @@ module _ (t : List ℕ) (p : ℕ) (f : ℕ → Bool) where
 
 -- the number that a plan asks for is a byte's or 256
 module _ (t : List ℕ) (bytes : (i : ℕ) → byte_at t i < 256) where
-  in_node : (e : Node) → e.a < 256 → Dec (5 ≤ e.kind) → number_in (asks e) ≤ 256
-  in_node e l (yes h) = omega (arith, number_of e h)
-  in_node e l (no h) = omega (arith, no_number_of e (omega arith))
+  in_node : (e : Node) → e.a < 256 → number_in (asks e) ≤ 256
+  in_node e l = by_kind e.kind refl
+    where
+      by_kind : (k : ℕ) → e.kind ≡ k → number_in (asks e) ≤ 256
+      by_kind zero is = rw is (omega arith)
+      by_kind (suc zero) is = rw is (omega arith)
+      by_kind (suc (suc zero)) is = rw is (omega arith)
+      by_kind (suc (suc (suc zero))) is = rw is (omega arith)
+      by_kind (suc (suc (suc (suc zero)))) is = rw is (omega arith)
+      by_kind (suc (suc (suc (suc (suc k))))) is = rw is (omega arith)
 
   pub wait_small : (p : ℕ) → (entry t p).wait < 256
   wait_small p = bytes (8 + 8 * p + 7)
@@ -146,4 +137,4 @@ module _ (t : List ℕ) (bytes : (i : ℕ) → byte_at t i < 256) where
       go false true = omega arith
       go false false =
           let at = 10 + 8 * plan_count t + 4 * (entry t p).wait in
-          in_node (node t (entry t p).wait) (bytes (at + 1)) (dec_le 5 (node t (entry t p).wait).kind)
+          in_node (node t (entry t p).wait) (bytes (at + 1))

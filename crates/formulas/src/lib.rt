@@ -2,39 +2,21 @@
 // table is read, since most plans ask for one; a formula is evaluated in O(its nodes). Assumes a table that has passed check 22.
 #![tactic(auto)]
 
-ghost use Rattle.std.specs.Prelude.{◌≡◌, true, false, ◌+◌, ◌*◌, ◌<◌, ◌≤◌, length, get_or, eqb};
+ghost use Rattle.std.specs.Prelude.{◌≡◌, ◌+◌, ◌<◌, ◌≤◌, length, get_or, eqb};
 ghost use Rattle.rules.specs.Bytes.{is_set};
-ghost use Rattle.rules.specs.WaitFor.{first_version, node_count};
+ghost use Rattle.rules.specs.WaitFor.{node_count};
 ghost use Rattle.formulas.specs.Asked.{number_asked, Formed, Waiting, Numbered, WaitKnown, TellsFormula, TellsWaitFor};
 
 use reading::{entry_at, is_first_version, node_at};
 use rules::{Asks, Body, at_least};
 
+// What stands for 'asks otherwise' among the numbers of named children: a byte is below it. No Option, since `find_numbers` promises
+// `Numbered`, which speaks of words, and the buffer that its caller lends has nothing else.
+const OTHERWISE: u64 = 256;
+
 // For each of n plans, behind the n words of their named children, how many of these its wait-for asks for: 256 where it asks otherwise.
 pub fn find_numbers(table: &[u8], n: usize, names: &mut [u64])
     requires { Waiting table.now n × (n + n ≤ length names.old) }
-    ensures { Numbered table.now n n names.old names.new }
-{
-    if is_first_version(table) {
-        take_numbers(table, n, names);
-    } else {
-        ask_formulas(table, n, names);
-    }
-}
-
-// The same, of a table of version 1: the wait numbers.
-fn take_numbers(table: &[u8], n: usize, names: &mut [u64])
-    requires { Waiting table.now n × (n + n ≤ length names.old) × (first_version table.now ≡ true) }
-    ensures { Numbered table.now n n names.old names.new }
-{
-    for p in 0..n {
-        names[n + p] = entry_at(table, p).wait as u64;
-    }
-}
-
-// The same, of one of version 2.
-fn ask_formulas(table: &[u8], n: usize, names: &mut [u64])
-    requires { Waiting table.now n × (n + n ≤ length names.old) × (first_version table.now ≡ false) }
     ensures { Numbered table.now n n names.old names.new }
 {
     for p in 0..n {
@@ -60,27 +42,28 @@ pub fn wait_for(table: &[u8], n: usize, names: &[u64], p: usize, set: u64) -> bo
         return true;
     }
     let number = names[n + p];
-    if number == 256 {
-        return formula(table, names[p], set, wide(entry_at(table, p).wait));
+    if number == OTHERWISE {
+        return formula(table, names[p], set, usize::from(entry_at(table, p).wait));
     }
     at_least(number as u32, names[p] & set)
 }
 
-// How many named children the formula of plan p asks for: none of a leaf, 256 where it asks otherwise.
+// How many named children wait-for of plan p asks for: in version 1 its wait number; else none of a leaf, and what a formula says.
 fn number_asked(table: &[u8], n: usize, p: usize) -> u64
-    requires { Waiting table.now n × (p < n) × (first_version table.now ≡ false) }
+    requires { Waiting table.now n × (p < n) }
     ensures { result ≡ number_asked table.now p }
 {
     let e = entry_at(table, p);
-    if (e.body_kind() == Body::Leaf) {
+    if is_first_version(table) {
+        return u64::from(e.wait);
+    }
+    if e.body_kind() == Body::Leaf {
         return 0;
     }
-    let node = node_at(table, wide(e.wait));
-    // kind 5, and no other once check 22 has passed
-    if node.kind < 5 {
-        return 256;
+    match node_at(table, usize::from(e.wait)).asks() {
+        Asks::AtLeast(m) => u64::from(m),
+        _ => OTHERWISE,
     }
-    node.a as u64
 }
 
 // Whether the formula that begins with node i holds of a set of children; `names` has those that are named.
@@ -90,12 +73,12 @@ fn formula(table: &[u8], names: u64, set: u64, i: usize) -> bool
 {
     match node_at(table, i).asks() {
         Asks::Child(rank) => has_rank(set, rank),
-        Asks::Not(a) => !formula(table, names, set, wide(a)),
+        Asks::Not(a) => !formula(table, names, set, usize::from(a)),
         Asks::Join(how, a, b) => how.join(
-            formula(table, names, set, wide(a)),
-            formula(table, names, set, wide(b)),
+            formula(table, names, set, usize::from(a)),
+            formula(table, names, set, usize::from(b)),
         ),
-        Asks::AtLeast(m) => at_least(m as u32, names & set),
+        Asks::AtLeast(m) => at_least(u32::from(m), names & set),
     }
 }
 
@@ -107,11 +90,4 @@ fn has_rank(set: u64, rank: u8) -> bool
         return false;
     }
     (set >> rank) % 2 == 1
-}
-
-// A byte as an index: named, so that a reader of it has its bound.
-fn wide(x: u8) -> usize
-    ensures { (result ≡ x) × (result < 256) }
-{
-    x as usize
 }

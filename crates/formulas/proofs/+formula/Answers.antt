@@ -20,7 +20,7 @@ returns-in-Not t c q f k en es =
     let is = sym (c.asks.ensures ∙ ap asks c.node_at.ensures) ∙ c.in-Not.is in
     let up = only_up _ c.requires.0 _ c.requires.1 _ (ap operands is) in
     by_asked _ q _ f _ _ is (omega (arith, c.requires.1, c.requires.0.few))
-    (λ j h. ap not (says _ q _ _ f en es _ _ _ j _ c.formula.ensures c.wide.ensures.0 up.0 h)) k
+    (λ j h. ap not (says _ q _ _ f en es _ _ _ j _ c.formula.ensures c.from.ensures up.0 h)) k
 
 pub returns-in-Join : goal.returns-in-Join
 returns-in-Join t c q f k en es =
@@ -30,11 +30,11 @@ returns-in-Join t c q f k en es =
     (λ j h.
     c.join.ensures
     ∙ ap₂ (joined c.in-Join.how)
-    (says _ q _ _ f en es _ _ _ j _ c.formula-in-Join.ensures c.wide-in-Join.ensures.0 up.0.0 h)
-    (says _ q _ _ f en es _ _ _ j _ c.formula-in-Join-2.ensures c.wide-in-Join-2.ensures.0 up.1.0 h)) k
+    (says _ q _ _ f en es _ _ _ j _ c.formula-in-Join.ensures c.from-in-Join.ensures up.0.0 h)
+    (says _ q _ _ f en es _ _ _ j _ c.formula-in-Join-2.ensures c.from-in-Join-2.ensures up.1.0 h)) k
 
 pub returns-in-AtLeast : goal.returns-in-AtLeast
 returns-in-AtLeast t c q f k en es =
     let is = sym (c.asks.ensures ∙ ap asks c.node_at.ensures) ∙ c.in-AtLeast.is in
     by_asked _ q _ f _ _ is (omega (arith, c.requires.1, c.requires.0.few))
-    (λ j h. c.at_least.ensures ∙ ap (leb _) (ap ones (ap₂ bit_and en es)) ∙ named_ones _ q _ f) k
+    (λ j h. c.at_least.ensures ∙ ap₂ leb c.from-in-AtLeast.ensures (ap ones (ap₂ bit_and en es)) ∙ named_ones _ q _ f) k

@@ -1,42 +1,47 @@
--- `number_asked` meets its contract: a leaf asks for none, a node of kind 5 for its number. Assumes nothing.
-use Rattle.std.proofs.Common.{sym, ap, ◌∙◌, arith}
+-- `number_asked` meets its contract: a wait number, none of a leaf, or what the first node of a formula asks for. Assumes nothing.
+use Rattle.std.proofs.Common.{◌≡◌, rules, sym, ap, ◌∙◌, arith}
 use Rattle.rules.specs.Table.{body_of, is_body}
 use Rattle.rules.specs.WaitFor.{asks, node}
 use Rattle.rules.specs.declared.Body.TheVariants.{Leaf}
-use Rattle.rules.specs.declared.Node.{Node}
 use Rattle.rules.specs.declared.PlanEntry.{PlanEntry}
 use Rattle.formulas.specs.Asked.{number_in}
 use Rattle.formulas.proofs.Evaluated.{first_there}
-use Rattle.formulas.proofs.Numbers.{number_of, no_number_of, leaf_number, node_number}
+use Rattle.formulas.proofs.Numbers.{first_number, no_number, leaf_number, node_number}
 use Rattle.formulas.proofs.number_asked.Goals as goal
 
-pub returns-then-is : goal.returns-then-is
-returns-then-is c =
-    let is = c.is.ensures ∙ ap (is_body Leaf) (c.body_kind.ensures ∙ ap body_of c.entry_at-e.ensures) in
-    leaf_number _ _ c.requires.2 (sym is ∙ c.if-is.true)
+pub returns-then-is_first_version : goal.returns-then-is_first_version
+returns-then-is_first_version c =
+    c.from.ensures ∙ ap (λ (e : PlanEntry). e.wait) c.entry_at-e.ensures ∙ first_number _ _ (sym c.is_first_version.ensures ∙ c.if-is_first_version.true)
+
+pub returns-then-eq : goal.returns-then-eq
+returns-then-eq c =
+    let is : c.eq.result ≡ is_body Leaf c.body_kind.result = search rules in
+    let leaf = sym (is ∙ ap (is_body Leaf) (c.body_kind.ensures ∙ ap body_of c.entry_at-e.ensures)) ∙ c.if-eq.true in
+    leaf_number _ _ (sym c.is_first_version.ensures ∙ c.if-is_first_version.false) leaf
 
 -- where it is no leaf, its first node is there
-pub node_at-node-requires : goal.node_at-node-requires
-node_at-node-requires c =
-    let is = c.is.ensures ∙ ap (is_body Leaf) (c.body_kind.ensures ∙ ap body_of c.entry_at-e.ensures) in
-    let first = c.wide.ensures.0 ∙ ap (λ (e : PlanEntry). e.wait) c.entry_at-e.ensures in
-    let formed = c.requires.0.formed c.requires.2 in
-    let there = first_there _ formed _ (omega (arith, c.requires.1, c.requires.0.whole)) (sym is ∙ c.if-is.false) in
+pub node_at-requires : goal.node_at-requires
+node_at-requires c =
+    let is : c.eq.result ≡ is_body Leaf c.body_kind.result = search rules in
+    let leaf = sym (is ∙ ap (is_body Leaf) (c.body_kind.ensures ∙ ap body_of c.entry_at-e.ensures)) ∙ c.if-eq.false in
+    let first = c.from-2.ensures ∙ ap (λ (e : PlanEntry). e.wait) c.entry_at-e.ensures in
+    let formed = c.requires.0.formed (sym c.is_first_version.ensures ∙ c.if-is_first_version.false) in
+    let there = first_there _ formed _ (omega (arith, c.requires.1, c.requires.0.whole)) leaf in
     omega (arith, there, first, formed.room)
 
 -- what the node says is what the plan asks for
-pub returns-then-node-lt5 : goal.returns-then-node-lt5
-returns-then-node-lt5 c =
-    let is = c.is.ensures ∙ ap (is_body Leaf) (c.body_kind.ensures ∙ ap body_of c.entry_at-e.ensures) in
-    let first = c.wide.ensures.0 ∙ ap (λ (e : PlanEntry). e.wait) c.entry_at-e.ensures in
-    sym (no_number_of c.node_at-node.result c.if-node-lt5.true)
-    ∙ ap (λ (e : Node). number_in (asks e)) (c.node_at-node.ensures ∙ ap (node c.args.table.now) first)
-    ∙ node_number _ _ c.requires.2 (sym is ∙ c.if-is.false)
+pub returns-in-AtLeast : goal.returns-in-AtLeast
+returns-in-AtLeast c =
+    let is : c.eq.result ≡ is_body Leaf c.body_kind.result = search rules in
+    let leaf = sym (is ∙ ap (is_body Leaf) (c.body_kind.ensures ∙ ap body_of c.entry_at-e.ensures)) ∙ c.if-eq.false in
+    let first = c.from-2.ensures ∙ ap (λ (e : PlanEntry). e.wait) c.entry_at-e.ensures in
+    let asked = c.asks.ensures ∙ ap asks (c.node_at.ensures ∙ ap (node c.args.table.now) first) in
+    c.from-in-AtLeast.ensures ∙ ap number_in (sym c.in-AtLeast.is ∙ asked) ∙ node_number _ _ (sym c.is_first_version.ensures ∙ c.if-is_first_version.false) leaf
 
-pub returns : goal.returns
-returns c =
-    let is = c.is.ensures ∙ ap (is_body Leaf) (c.body_kind.ensures ∙ ap body_of c.entry_at-e.ensures) in
-    let first = c.wide.ensures.0 ∙ ap (λ (e : PlanEntry). e.wait) c.entry_at-e.ensures in
-    sym (number_of c.node_at-node.result c.if-node-lt5.false)
-    ∙ ap (λ (e : Node). number_in (asks e)) (c.node_at-node.ensures ∙ ap (node c.args.table.now) first)
-    ∙ node_number _ _ c.requires.2 (sym is ∙ c.if-is.false)
+pub returns-in_default : goal.returns-in_default
+returns-in_default c =
+    let is : c.eq.result ≡ is_body Leaf c.body_kind.result = search rules in
+    let leaf = sym (is ∙ ap (is_body Leaf) (c.body_kind.ensures ∙ ap body_of c.entry_at-e.ensures)) ∙ c.if-eq.false in
+    let first = c.from-2.ensures ∙ ap (λ (e : PlanEntry). e.wait) c.entry_at-e.ensures in
+    let asked = c.asks.ensures ∙ ap asks (c.node_at.ensures ∙ ap (node c.args.table.now) first) in
+    no_number _ c.in_default.not-AtLeast ∙ ap number_in asked ∙ node_number _ _ (sym c.is_first_version.ensures ∙ c.if-is_first_version.false) leaf

@@ -21,19 +21,19 @@ formula-requires c =
     let t = c.args.table.now in
     let bytes : (i : ℕ) → byte_at t i < 256 = λ i. omega (arith, c.type_inv.table i) in
     let told =
-    by_formula t c.args.p (λ q. false) (wait_small t bytes c.args.p) (sym c.requires.number ∙ c.if-number-eq256.true)
+    by_formula t c.args.p (λ q. false) (wait_small t bytes c.args.p) (sym c.requires.number ∙ c.if-number-eq-OTHERWISE.true)
     in
-    let first = c.wide.ensures.0 ∙ ap (λ (e : PlanEntry). e.wait) c.entry_at.ensures in
+    let first = c.from.ensures ∙ ap (λ (e : PlanEntry). e.wait) c.entry_at.ensures in
     let formed = c.requires.table.formed told.0 in
     let there = first_there _ formed _ (omega (arith, c.requires.within, c.requires.table.whole)) told.1.0 in
     (formed, omega (arith, there, first))
 
-pub returns-then-number-eq256 : goal.returns-then-number-eq256
-returns-then-number-eq256 c f es =
+pub returns-then-number-eq-OTHERWISE : goal.returns-then-number-eq-OTHERWISE
+returns-then-number-eq-OTHERWISE c f es =
     let t = c.args.table.now in
     let bytes : (i : ℕ) → byte_at t i < 256 = λ i. omega (arith, c.type_inv.table i) in
-    let told = by_formula t c.args.p f (wait_small t bytes c.args.p) (sym c.requires.number ∙ c.if-number-eq256.true) in
-    let first = c.wide.ensures.0 ∙ ap (λ (e : PlanEntry). e.wait) c.entry_at.ensures in
+    let told = by_formula t c.args.p f (wait_small t bytes c.args.p) (sym c.requires.number ∙ c.if-number-eq-OTHERWISE.true) in
+    let first = c.from.ensures ∙ ap (λ (e : PlanEntry). e.wait) c.entry_at.ensures in
     c.formula.ensures c.args.p f 256 c.requires.collected es (omega arith)
     ∙ ap (formula_holds t c.args.p f 256) first
     ∙ told.1.1
@@ -52,4 +52,4 @@ returns c f es =
     c.at_least.ensures
     ∙ ap₂ leb c.requires.number (ap ones (ap₂ bit_and c.requires.collected es))
     ∙ named_ones _ _ _ f
-    ∙ by_number _ _ f (omega (arith, number_small t bytes c.args.p, c.requires.number, c.if-number-eq256.false))
+    ∙ by_number _ _ f (omega (arith, number_small t bytes c.args.p, c.requires.number, c.if-number-eq-OTHERWISE.false))
