@@ -5,6 +5,7 @@ pub mod Digits
 pub mod Known
 pub mod Least
 pub mod Below
+pub mod Ranges
 pub mod Derived
 pub mod Outcomes
 pub mod Tree

@@ -65,11 +65,11 @@ fn stamp_plan(state: u8, number: u32, stored: &mut [u8], p: usize) -> usize
     ensures { Appended stored.old (8 * p) (eight_bytes state (since_after number
         (state_of (state_byte stored.old p)) (state_of state) (since_at stored.old p))) stored.new result }
 {
-    let old = PlanState::from(stored[8 * p]);
+    let old = PlanState::from_byte(stored[8 * p]);
     let since = since_after(
         number,
         old,
-        PlanState::from(state),
+        PlanState::from_byte(state),
         u32_at(stored, 8 * p + 4),
     );
     put_eight(state, since, stored, 8 * p)
