@@ -20,70 +20,290 @@ use formulas::{wait_for, waits_for_none};
 use reading::{entry_at, parent_at, word_at};
 use rules::{Body, Orders, PlanEntry, PlanState, is_set};
 
-// Whether plan p's parent considers, activates or retries it, by the parent's body, its children and its word (RULES section 6): none of
-// them unless the parent was and stays Activated, and the last only if the parent has retry-aborted. The root moves as if it had a parent
-// that considers it when Inactive and activates it when Ready; nobody retries it.
-pub fn orders(
-    table: &[u8],
-    ranks: &[u8],
-    names: &[u64],
-    sets: &[u64],
-    picks: &[u8],
-    old: &[u8],
-    words: &[u8],
-    after: PlanState,
-    p: usize,
-) -> Orders
-    requires facts { StepFacts table.now old.now ranks.now sets.now picks.now }
-    requires named { NamedWords table.now names.now }
-    requires plan { (p < plan_count table.now) × (4 * p + 4 ≤ length words.now) }
-    ensures { result ≡ orders_at table.now old.now words.now
-        (Step·chosen table.now old.now (picks_of picks.now)) after p }
-{
-    if p == 0 {
-        return root_orders();
-    }
-    let q = parent_at(table, p);
-    let before = PlanState::from(old[q]);
-    let rank = wide(ranks[p]);
-    let chosen = rank == chosen_rank(sets, q, names[q], wide(picks[q]));
-    let e = entry_at(table, q);
-    orders_if(before, after, e, word_at(words, q), sets, q, rank, chosen)
+// What all plans of a step read: the rule's number, the table and its number of plans, the plans' ranks, the words of their named children
+// and, from n on, how many of these each waits for, the words of their children by old state, the ranks that they pick, their old states
+// and their input words. What of it must hold, each function asks for.
+#[derive(Clone, Copy)]
+pub struct Scene<'a> {
+    pub rule: u32,
+    pub table: &'a [u8],
+    pub n: usize,
+    pub ranks: &'a [u8],
+    pub names: &'a [u64],
+    pub sets: &'a [u64],
+    pub picks: &'a [u8],
+    pub old: &'a [u8],
+    pub words: &'a [u8],
 }
 
-// What a parent orders a child, given the parent's states before and after: nothing unless it was and stays Activated.
-fn orders_if(
-    before: PlanState,
-    after: PlanState,
-    e: PlanEntry,
-    word: u32,
-    sets: &[u64],
+impl<'a> Scene<'a> {
+    // Whether plan p's parent considers, activates or retries it, by the parent's body, its children and its word (RULES section 6): none
+    // of them unless the parent was and stays Activated, and the last only if the parent has retry-aborted. The root moves as if it had a
+    // parent that considers it when Inactive and activates it when Ready; nobody retries it.
+    pub fn orders(&self, after: PlanState, p: usize) -> Orders
+        requires facts { StepFacts self.now.table.now self.now.old.now self.now.ranks.now self.now.sets.now self.now.picks.now }
+        requires named { NamedWords self.now.table.now self.now.names.now }
+        requires plan { (p < plan_count self.now.table.now) × (4 * p + 4 ≤ length self.now.words.now) }
+        ensures { result ≡ orders_at self.now.table.now self.now.old.now self.now.words.now
+            (Step·chosen self.now.table.now self.now.old.now (picks_of self.now.picks.now)) after p }
+    {
+        if p == 0 {
+            return ROOT_ORDERS;
+        }
+        let q = parent_at(self.table, p);
+        let before = PlanState::from(self.old[q]);
+        let rank = u32::from(self.ranks[p]);
+        let siblings = self.children(q);
+        let chosen = rank == siblings.chosen_rank(self.names[q], u32::from(self.picks[q]));
+        let e = entry_at(self.table, q);
+        siblings.orders_if(before, after, e, word_at(self.words, q), rank, chosen)
+    }
+
+    // Whether too many children of plan p are lost: wait-for (RULES 3.9) does not hold of those that were not lost. Lost are those that
+    // were Rejected or Aborted; by rule 2 (RULES 1.8), if p has retry-aborted, those that were Rejected only.
+    pub fn too_many_lost(&self, p: usize) -> bool
+        requires { OwnChildren self.now.table.now self.now.n self.now.names.now self.now.sets.now p }
+        ensures { TellsLost self.now.sets.now p self.now.rule self.now.table.now result }
+    {
+        // most plans wait for none: no word is put together for them
+        if waits_for_none(self.n, self.names, p) {
+            return false;
+        }
+        let again = entry_at(self.table, p).retries_aborted();
+        let kept = self.children(p).not_lost(self.rule, again);
+        !wait_for(self.table, self.n, self.names, p, kept)
+    }
+
+    // Whether the children of plan p let it complete: wait-for holds of those that were Completed, and, with wait-for-optional, all were
+    // ended; of the two children of a body 5 to 8 an Inactive one can count as ended (RULES 5.19).
+    pub fn may_complete(&self, p: usize) -> bool
+        requires { OwnChildren self.now.table.now self.now.n self.now.names.now self.now.sets.now p }
+        ensures { TellsComplete self.now.sets.now p self.now.table.now result }
+    {
+        let children = self.children(p);
+        let completed = children.in_state(PlanState::Completed);
+        if !wait_for(self.table, self.n, self.names, p, completed) {
+            return false;
+        }
+        let e = entry_at(self.table, p);
+        if !e.waits_for_optional() {
+            return true;
+        }
+        children.all_ended(e.body_kind())
+    }
+
+    // The children of plan q.
+    fn children(&self, q: usize) -> Children<'a>
+        requires { HasWords self.now.sets.now q }
+        ensures { (result.sets.now ≡ self.now.sets.now) × (result.q ≡ q) }
+    {
+        Children { sets: self.sets, q }
+    }
+}
+
+// The children of plan q: nine words among those of all plans, one for each state, a bit for each rank.
+#[derive(Clone, Copy)]
+struct Children<'a> {
+    sets: &'a [u64],
     q: usize,
-    rank: u32,
-    chosen: bool,
-) -> Orders
-    requires { HasWords sets.now q }
-    ensures { TellsOrdersIf sets.now q before after e word rank chosen result }
-{
-    if (before == PlanState::Activated) & (after == PlanState::Activated) {
-        return orders_to(e, word, sets, q, rank, chosen);
-    }
-    no_orders()
+    ghost has_words: { HasWords sets.now q },
 }
 
-// What plan q, by its entry and input word, orders its child of a rank; `chosen` says that this is the child that an any-order plan would
-// activate.
-fn orders_to(e: PlanEntry, word: u32, sets: &[u64], q: usize, rank: u32, chosen: bool) -> Orders
-    requires { HasWords sets.now q }
-    ensures { TellsOrders sets.now q e word rank chosen result }
-{
-    let body = e.body_kind();
-    let again = e.retries_aborted();
-    let is_next = rank == first_not_done(sets, q, again);
-    let is_chosen = may_activate(sets, q, again) & chosen;
-    let is_due = due(body, word, sets, q, rank == 0);
-    orders_by(body, again, is_next, gate_open(sets, q), is_chosen, is_due)
+impl<'a> Children<'a> {
+    // What q orders a child, given q's states before and after: nothing unless it was and stays Activated.
+    fn orders_if(
+        &self,
+        before: PlanState,
+        after: PlanState,
+        e: PlanEntry,
+        word: u32,
+        rank: u32,
+        chosen: bool,
+    ) -> Orders
+        ensures { TellsOrdersIf self.now.sets.now self.now.q before after e word rank chosen result }
+    {
+        if (before == PlanState::Activated) & (after == PlanState::Activated) {
+            return self.orders_to(e, word, rank, chosen);
+        }
+        NO_ORDERS
+    }
+
+    // What q, by its entry and input word, orders its child of a rank; `chosen` says that this is the child that an any-order plan would
+    // activate.
+    fn orders_to(&self, e: PlanEntry, word: u32, rank: u32, chosen: bool) -> Orders
+        ensures { TellsOrders self.now.sets.now self.now.q e word rank chosen result }
+    {
+        let body = e.body_kind();
+        let again = e.retries_aborted();
+        let is_next = rank == self.first_not_done(again);
+        let is_chosen = self.may_activate(again) & chosen;
+        let is_due = self.due(body, word, rank == 0);
+        orders_by(body, again, is_next, self.gate_open(), is_chosen, is_due)
+    }
+
+    // Whether q, whose body is one of two, considers its first child, or its second; of other bodies the answer is not read.
+    fn due(&self, body: Body, word: u32, is_first: bool) -> bool
+        ensures { TellsDue self.now.sets.now self.now.q body word is_first result }
+    {
+        if body == Body::IfThenElse {
+            return self.branch_taken(word, is_first);
+        }
+        is_first | self.bad_turn(body)
+    }
+
+    // If-then-else: while both children are Inactive, the first is considered if the condition is satisfied, the second if it is not
+    // satisfiable.
+    fn branch_taken(&self, word: u32, is_first: bool) -> bool
+        ensures { TellsBranch self.now.sets.now self.now.q word is_first result }
+    {
+        let open = self.in_state(PlanState::Inactive) == 3;
+        if is_first {
+            return open & is_set(word, 20);
+        }
+        open & !is_set(word, 21)
+    }
+
+    // Whether the first child has taken the turn for which the second is there.
+    fn bad_turn(&self, body: Body) -> bool
+        ensures { TellsBadTurn self.now.sets.now self.now.q body result }
+    {
+        let aborted = self.in_state(PlanState::Aborted) % 2 == 1;
+        let suspended = self.in_state(PlanState::Suspended) % 2 == 1;
+        (after_abort(body) & aborted) | (after_suspend(body) & suspended)
+    }
+
+    // The rank of the child that q, an any-order plan whose named children are the word `named`, activates under a pick: the Ready child
+    // of that rank, else the lowest that is Ready and named, else the lowest that is Ready; with none, a number that no child has as its
+    // rank.
+    fn chosen_rank(&self, named: u64, pick: u32) -> u32
+        requires { pick < 64 }
+        ensures { TellsChosenRank self.now.sets.now self.now.q named pick result }
+    {
+        let ready = self.in_state(PlanState::Ready);
+        if (ready >> pick) % 2 == 1 {
+            return pick;
+        }
+        let mandatory = ready & named;
+        if mandatory != 0 {
+            return mandatory.trailing_zeros();
+        }
+        ready.trailing_zeros()
+    }
+
+    // The rank of the first child that is not done; with none, a number that no child has as its rank.
+    fn first_not_done(&self, again: bool) -> u32
+        ensures { TellsFirstNotDone self.now.sets.now self.now.q again result }
+    {
+        let done = self.in_state(PlanState::Completed) | self.in_state(PlanState::Rejected);
+        let aborted = self.in_state(PlanState::Aborted);
+        if again {
+            return (!done).trailing_zeros();
+        }
+        (!(done | aborted)).trailing_zeros()
+    }
+
+    // Whether the gate of q, a parallel plan, is open.
+    fn gate_open(&self) -> bool
+        ensures { TellsGate self.now.sets.now self.now.q result }
+    {
+        let over = self.in_state(PlanState::Completed) | self.in_state(PlanState::Aborted);
+        (self.before_ready() == 0) | ((self.running() | over) != 0)
+    }
+
+    // Whether q, an any-order plan, may activate a child.
+    fn may_activate(&self, again: bool) -> bool
+        ensures { TellsMayActivate self.now.sets.now self.now.q again result }
+    {
+        (self.running() == 0) & !(again & (self.in_state(PlanState::Aborted) != 0))
+    }
+
+    // Those that are not lost by a rule, as a word; `again` is q's retry-aborted.
+    fn not_lost(&self, rule: u32, again: bool) -> u64
+        ensures { TellsWord self.now.sets.now self.now.q (kept_states rule again) result }
+    {
+        let others = self.not_ended() | self.in_state(PlanState::Completed);
+        // read before the test, so that no branch comes of it
+        let aborted = self.in_state(PlanState::Aborted);
+        if (rule == 2) & again {
+            return others | aborted;
+        }
+        others
+    }
+
+    // Whether all are ended; of a body of two, whether both count as ended.
+    fn all_ended(&self, body: Body) -> bool
+        ensures { TellsAllEnded self.now.sets.now self.now.q body result }
+    {
+        if body.is_of_two() {
+            return self.both_ended(body);
+        }
+        self.each_ended()
+    }
+
+    // Whether each is ended.
+    fn each_ended(&self) -> bool
+        ensures { TellsEachEnded self.now.sets.now self.now.q result }
+    {
+        self.not_ended() == 0
+    }
+
+    // Whether the two children count as ended: each is ended or Inactive, one is ended, and, where the second is there for an Aborted
+    // first, it is not Inactive beside one.
+    fn both_ended(&self, body: Body) -> bool
+        ensures { TellsBothEnded self.now.sets.now self.now.q body result }
+    {
+        let idle = self.in_state(PlanState::Inactive);
+        let aborted = self.in_state(PlanState::Aborted);
+        let over = self.in_state(PlanState::Completed)
+            | self.in_state(PlanState::Rejected)
+            | aborted;
+        let second_waits = after_abort(body) & (aborted == 1) & (idle == 2);
+        ((idle | over) == 3) & (over != 0) & !second_waits
+    }
+
+    // Those that are not ended, as a word.
+    fn not_ended(&self) -> u64
+        ensures { TellsWord self.now.sets.now self.now.q unended result }
+    {
+        self.before_ready() | self.in_state(PlanState::Ready) | self.running()
+    }
+
+    // Those that have not come to be Ready, as a word.
+    fn before_ready(&self) -> u64
+        ensures { TellsWord self.now.sets.now self.now.q (Inactive ∷ Considered ∷ Possible ∷ []) result }
+    {
+        self.in_state(PlanState::Inactive)
+            | self.in_state(PlanState::Considered)
+            | self.in_state(PlanState::Possible)
+    }
+
+    // Those in execution, as a word.
+    fn running(&self) -> u64
+        ensures { TellsWord self.now.sets.now self.now.q (Activated ∷ Suspended ∷ []) result }
+    {
+        self.in_state(PlanState::Activated) | self.in_state(PlanState::Suspended)
+    }
+
+    // Those in a state, as a word.
+    fn in_state(&self, state: PlanState) -> u64
+        ensures { result ≡ get_or self.now.sets.now (self.now.q * 9 + code state) 0 }
+    {
+        self.sets[self.q * 9 + state as usize]
+    }
 }
+
+// No orders, and what the root is ordered.
+const NO_ORDERS: Orders = Orders {
+    considers: false,
+    activates: false,
+    retries: false,
+};
+
+const ROOT_ORDERS: Orders = Orders {
+    considers: true,
+    activates: true,
+    retries: false,
+};
 
 // What a plan orders one child, by the plan's body.
 fn orders_by(
@@ -97,7 +317,7 @@ fn orders_by(
     ensures { result ≡ orders_of body again is_next gate is_chosen is_due }
 {
     match body {
-        Body::Leaf => no_orders(),
+        Body::Leaf => NO_ORDERS,
         Body::Sequential => Orders {
             considers: is_next,
             activates: is_next,
@@ -118,10 +338,9 @@ fn orders_by(
             activates: true,
             retries: again,
         },
-        Body::OnAbort => orders_of_two(is_due),
-        Body::OnSuspend => orders_of_two(is_due),
-        Body::OnAbortOrSuspend => orders_of_two(is_due),
-        Body::IfThenElse => orders_of_two(is_due),
+        Body::OnAbort | Body::OnSuspend | Body::OnAbortOrSuspend | Body::IfThenElse => {
+            orders_of_two(is_due)
+        }
     }
 }
 
@@ -136,250 +355,16 @@ fn orders_of_two(is_due: bool) -> Orders
     }
 }
 
-// Whether plan q, whose body is one of two, considers its first child, or its second; of other bodies the answer is not read.
-fn due(body: Body, word: u32, sets: &[u64], q: usize, is_first: bool) -> bool
-    requires { HasWords sets.now q }
-    ensures { TellsDue sets.now q body word is_first result }
-{
-    if (body == Body::IfThenElse) {
-        return branch_taken(word, sets, q, is_first);
-    }
-    is_first | bad_turn(body, sets, q)
-}
-
-// If-then-else: while both children are Inactive, the first is considered if the condition is satisfied, the second if it is not
-// satisfiable.
-fn branch_taken(word: u32, sets: &[u64], q: usize, is_first: bool) -> bool
-    requires { HasWords sets.now q }
-    ensures { TellsBranch sets.now q word is_first result }
-{
-    let open = in_state(sets, q, PlanState::Inactive) == 3;
-    if is_first {
-        return open & is_set(word, 20);
-    }
-    open & !is_set(word, 21)
-}
-
-// Whether the first child of plan q has taken the turn for which the second is there.
-fn bad_turn(body: Body, sets: &[u64], q: usize) -> bool
-    requires { HasWords sets.now q }
-    ensures { TellsBadTurn sets.now q body result }
-{
-    let aborted = in_state(sets, q, PlanState::Aborted) % 2 == 1;
-    let suspended = in_state(sets, q, PlanState::Suspended) % 2 == 1;
-    (after_abort(body) & aborted) | (after_suspend(body) & suspended)
-}
-
-// No orders.
-fn no_orders() -> Orders
-    ensures { result ≡ none }
-{
-    Orders {
-        considers: false,
-        activates: false,
-        retries: false,
-    }
-}
-
-// What the root is ordered.
-fn root_orders() -> Orders
-    ensures { result ≡ root_orders }
-{
-    Orders {
-        considers: true,
-        activates: true,
-        retries: false,
-    }
-}
-
-// The rank of the child that an any-order plan q, whose named children are the word `named`, activates under a pick: the Ready child of
-// that rank, else the lowest that is Ready and named, else the lowest that is Ready; with none, a number that no child has as its rank.
-fn chosen_rank(sets: &[u64], q: usize, named: u64, pick: u32) -> u32
-    requires { HasWords sets.now q × (pick < 64) }
-    ensures { TellsChosenRank sets.now q named pick result }
-{
-    let ready = in_state(sets, q, PlanState::Ready);
-    if (ready >> pick) % 2 == 1 {
-        return pick;
-    }
-    let mandatory = ready & named;
-    if mandatory != 0 {
-        return u64::trailing_zeros(mandatory);
-    }
-    u64::trailing_zeros(ready)
-}
-
-// The rank of q's first child that is not done; with none, a number that no child has as its rank.
-fn first_not_done(sets: &[u64], q: usize, again: bool) -> u32
-    requires { HasWords sets.now q }
-    ensures { TellsFirstNotDone sets.now q again result }
-{
-    let done = in_state(sets, q, PlanState::Completed) | in_state(sets, q, PlanState::Rejected);
-    let aborted = in_state(sets, q, PlanState::Aborted);
-    if again {
-        return u64::trailing_zeros(!done);
-    }
-    u64::trailing_zeros(!(done | aborted))
-}
-
-// Whether the gate of a parallel plan q is open.
-fn gate_open(sets: &[u64], q: usize) -> bool
-    requires { HasWords sets.now q }
-    ensures { TellsGate sets.now q result }
-{
-    let waiting = before_ready(sets, q);
-    let begun = running(sets, q);
-    let over = in_state(sets, q, PlanState::Completed) | in_state(sets, q, PlanState::Aborted);
-    (waiting == 0) | ((begun | over) != 0)
-}
-
-// Whether an any-order plan q may activate a child.
-fn may_activate(sets: &[u64], q: usize, again: bool) -> bool
-    requires { HasWords sets.now q }
-    ensures { TellsMayActivate sets.now q again result }
-{
-    let begun = running(sets, q);
-    let aborted = in_state(sets, q, PlanState::Aborted);
-    (begun == 0) & !(again & (aborted != 0))
-}
-
-// Whether too many children of plan p are lost: wait-for (RULES 3.9) does not hold of those that were not lost. Lost are those that were
-// Rejected or Aborted; by rule 2 (RULES 1.8), if p has retry-aborted, those that were Rejected only.
-pub fn too_many_lost(
-    rule: u32,
-    table: &[u8],
-    n: usize,
-    names: &[u64],
-    sets: &[u64],
-    p: usize,
-) -> bool
-    requires { OwnChildren table.now n names.now sets.now p }
-    ensures { TellsLost sets.now p rule table.now result }
-{
-    // most plans wait for none: no word is put together for them
-    if waits_for_none(n, names, p) {
-        return false;
-    }
-    let again = entry_at(table, p).retries_aborted();
-    !wait_for(table, n, names, p, not_lost(rule, again, sets, p))
-}
-
-// The children of plan p that are not lost, as a word; `again` is its retry-aborted.
-fn not_lost(rule: u32, again: bool, sets: &[u64], p: usize) -> u64
-    requires { HasWords sets.now p }
-    ensures { TellsWord sets.now p (kept_states rule again) result }
-{
-    let others = not_ended(sets, p) | in_state(sets, p, PlanState::Completed);
-    // read before the test, so that no branch comes of it
-    let aborted = in_state(sets, p, PlanState::Aborted);
-    if (rule == 2) & again {
-        return others | aborted;
-    }
-    others
-}
-
-// Whether the children of plan p let it complete: wait-for holds of those that were Completed, and, with wait-for-optional, all were
-// ended; of the two children of a body 5 to 8 an Inactive one can count as ended (RULES 5.19).
-pub fn may_complete(table: &[u8], n: usize, names: &[u64], sets: &[u64], p: usize) -> bool
-    requires { OwnChildren table.now n names.now sets.now p }
-    ensures { TellsComplete sets.now p table.now result }
-{
-    let completed = in_state(sets, p, PlanState::Completed);
-    if !wait_for(table, n, names, p, completed) {
-        return false;
-    }
-    let e = entry_at(table, p);
-    if !e.waits_for_optional() {
-        return true;
-    }
-    all_ended(e.body_kind(), sets, p)
-}
-
-// Whether all children of plan p are ended; of a body of two, whether both count as ended.
-fn all_ended(body: Body, sets: &[u64], p: usize) -> bool
-    requires { HasWords sets.now p }
-    ensures { TellsAllEnded sets.now p body result }
-{
-    if body.is_of_two() {
-        return both_ended(body, sets, p);
-    }
-    each_ended(sets, p)
-}
-
-// Whether each child of plan p is ended.
-fn each_ended(sets: &[u64], p: usize) -> bool
-    requires { HasWords sets.now p }
-    ensures { TellsEachEnded sets.now p result }
-{
-    not_ended(sets, p) == 0
-}
-
-// The children of plan p that are not ended, as a word.
-fn not_ended(sets: &[u64], p: usize) -> u64
-    requires { HasWords sets.now p }
-    ensures { TellsWord sets.now p unended result }
-{
-    before_ready(sets, p) | in_state(sets, p, PlanState::Ready) | running(sets, p)
-}
-
-// Whether the two children of plan p count as ended: each is ended or Inactive, one is ended, and, where the second is there for an
-// Aborted first, it is not Inactive beside one.
-fn both_ended(body: Body, sets: &[u64], p: usize) -> bool
-    requires { HasWords sets.now p }
-    ensures { TellsBothEnded sets.now p body result }
-{
-    let idle = in_state(sets, p, PlanState::Inactive);
-    let aborted = in_state(sets, p, PlanState::Aborted);
-    let over = in_state(sets, p, PlanState::Completed)
-        | in_state(sets, p, PlanState::Rejected)
-        | aborted;
-    let second_waits = after_abort(body) & (aborted == 1) & (idle == 2);
-    ((idle | over) == 3) & (over != 0) & !second_waits
-}
-
 // Whether the second of two children is there for a first that is Aborted.
 fn after_abort(body: Body) -> bool
     ensures { result ≡ after_abort body }
 {
-    (body == Body::OnAbort) | (body == Body::OnAbortOrSuspend)
+    matches!(body, Body::OnAbort | Body::OnAbortOrSuspend)
 }
 
 // Whether it is there for a first that is Suspended.
 fn after_suspend(body: Body) -> bool
     ensures { result ≡ after_suspend body }
 {
-    (body == Body::OnSuspend) | (body == Body::OnAbortOrSuspend)
-}
-
-// The children of plan q that have not come to be Ready, as a word.
-fn before_ready(sets: &[u64], q: usize) -> u64
-    requires { HasWords sets.now q }
-    ensures { TellsWord sets.now q (Inactive ∷ Considered ∷ Possible ∷ []) result }
-{
-    in_state(sets, q, PlanState::Inactive)
-        | in_state(sets, q, PlanState::Considered)
-        | in_state(sets, q, PlanState::Possible)
-}
-
-// The children of plan q in execution, as a word.
-fn running(sets: &[u64], q: usize) -> u64
-    requires { HasWords sets.now q }
-    ensures { TellsWord sets.now q (Activated ∷ Suspended ∷ []) result }
-{
-    in_state(sets, q, PlanState::Activated) | in_state(sets, q, PlanState::Suspended)
-}
-
-// The children of plan q in a state, as a word.
-fn in_state(sets: &[u64], q: usize, state: PlanState) -> u64
-    requires { HasWords sets.now q }
-    ensures { result ≡ get_or sets.now (q * 9 + code state) 0 }
-{
-    sets[q * 9 + state.to_byte() as usize]
-}
-
-// A byte as a rank: named, so that a reader of it has its bound.
-fn wide(x: u8) -> u32
-    ensures { result ≡ x }
-{
-    x as u32
+    matches!(body, Body::OnSuspend | Body::OnAbortOrSuspend)
 }
