@@ -7,7 +7,7 @@ ghost use Rattle.std.specs.Prelude.{◌≡◌, ◌+◌, ◌*◌, ◌<◌, ◌≤
 ghost use Rattle.rules.specs.States.{code};
 ghost use Rattle.rules.specs.Table.{plan_count};
 ghost use Rattle.rules.specs.declared.PlanState.TheVariants.{Inactive, Considered, Possible, Activated, Suspended};
-ghost use Rattle.rules.specs.Step.{none, root_orders, orders_of_two, orders_of, after_abort, after_suspend};
+ghost use Rattle.rules.specs.Step.{orders_of_two, orders_of, after_abort, after_suspend};
 ghost use Rattle.rules.specs.Step.{chosen as Step·chosen};
 ghost use Rattle.family.specs.ChildWords.{HasWords};
 ghost use Rattle.family.specs.Tells.{TellsFirstNotDone, TellsGate, TellsMayActivate, TellsChosenRank, TellsOrders, TellsOrdersIf};
