@@ -1,3 +1,2 @@
--- Laws for the proofs of this crate's functions.
-pub mod Written
+-- What holds of the answers of this crate's public functions.
 pub mod Unique

@@ -2,36 +2,46 @@
 // over the samples; nothing is allocated. Numbers come in two's complement, and any are taken. Assumes nothing.
 #![tactic(auto)]
 
-ghost use Rattle.std.specs.Prelude.{◌≡◌, ◌+◌, ◌-◌, ◌%◌, ◌^◌, ◌≤◌, min, max, true, length};
+ghost use Rattle.std.specs.Prelude.{◌≡◌, ◌+◌, ◌*◌, ◌%◌, ◌^◌, ◌≤◌, true, length};
 ghost use Rattle.time.specs.Annotations.{base, counted, bound_of, annotation_of, in_range, bound_in_range, annotation_in_range};
 ghost use Rattle.time.specs.Patterns.{every, minute_at, in_order, samples_check, pattern_check, Judged};
 ghost use Rattle.time.specs.Normal.{larger, smaller, minus, plus, larger_number, normal, plain, number_of, numbers_of, Normalised};
-ghost use Rattle.time.specs.Search.{low, high, far, window, admitted, over, next, is_found, pass_to, goes_on, starts_from};
-ghost use Rattle.time.specs.Search.{can_be, not_yet, answer, judgement_of};
+ghost use Rattle.time.specs.Search.{placed, window, admitted, over, next, is_found, pass_to, finish, goes_on, starts_from};
+ghost use Rattle.time.specs.Search.{can_be, answer, judgement_of};
 ghost use Rattle.time.specs.Search.{Small, Named, Worked, SmallWindow, NamedPass, Near, NearBound, NearAll};
 
-use rules::{Refusal};
-use time::{Annotation, Bound, Judgement, Pass, Window};
+use rules::Refusal;
+use time::{Annotation, Judgement, Pass, Window};
 
 // A number of minutes z is counted as z + BASE.
 const BASE: u64 = 4_000_000_000;
 
+// The least and the greatest number in range, counted: a billion minutes before and after BASE.
+const FIRST: u64 = 3_000_000_000;
+
+const LAST: u64 = 5_000_000_000;
+
+// A minute beyond all that are asked about.
+const FAR: u64 = 20_000_000_000;
+
 // The least of all numbers in two's complement, which stands for an open bound.
 const NONE: u64 = 0x8000_0000_0000_0000;
 
+// The most samples.
+const MOST: usize = 1024;
+
 // Whether a history satisfies an annotation at a minute, or still can; or refusal 18, 19 or 20.
-pub fn judge(numbers: &[u64; 7], samples: &[u64], minute: u64) -> Judgement
+pub fn judge(numbers: &[u64; 7], samples: &[u64], minute: u64) -> Result<Judgement, Refusal>
     ensures { Judged numbers.now samples.now minute result }
 {
     let a = annotation(numbers);
     let asked = counted(minute);
-    match check(a, samples, asked) {
-        Err(why) => Judgement::Refused(why),
-        Ok(()) => judged(a, samples, asked),
-    }
+    check(a, samples, asked)?;
+    Ok(judged(a, samples, asked))
 }
 
 // The answer where nothing is refused.
+#[tactic(auto, unfolding(time::specs::Search::judgement_of))]
 fn judged(a: Annotation, samples: &[u64], asked: u64) -> Judgement
     requires { NearAll a × (asked ≤ 5000000000) }
     ensures { result ≡ judgement_of a samples.now asked }
@@ -56,7 +66,7 @@ pub fn normalise(numbers: &mut [u64; 7]) -> Result<(), Refusal>
     if !annotation_in_range(n) {
         return Err(Refusal::NormalRange);
     }
-    put(n, numbers);
+    *numbers = numbers_of(n);
     Ok(())
 }
 
@@ -64,36 +74,29 @@ pub fn normalise(numbers: &mut [u64; 7]) -> Result<(), Refusal>
 fn counted(x: u64) -> u64
     ensures { result ≡ counted x }
 {
-    std::num::wrapping_add_u64(x, BASE)
+    x.wrapping_add(BASE)
 }
 
 // A bound as it is handed in.
-fn bound(x: u64) -> Bound
+fn bound(x: u64) -> Option<u64>
     ensures { result ≡ bound_of x }
 {
-    if x == NONE {
-        return Bound::Open;
-    }
-    Bound::At(counted(x))
+    if x == NONE { None } else { Some(counted(x)) }
 }
 
 // An annotation as it is handed in.
 fn annotation(numbers: &[u64; 7]) -> Annotation
     ensures { result ≡ annotation_of numbers.now }
 {
-    let ess = bound(numbers[0]);
-    let lss = bound(numbers[1]);
-    let efs = bound(numbers[2]);
-    let lfs = bound(numbers[3]);
-    let greatest = bound(numbers[5]);
+    let [ess, lss, efs, lfs, least, greatest, reference] = *numbers;
     Annotation {
-        ess,
-        lss,
-        efs,
-        lfs,
-        least: counted(numbers[4]),
-        greatest,
-        reference: counted(numbers[6]),
+        ess: bound(ess),
+        lss: bound(lss),
+        efs: bound(efs),
+        lfs: bound(lfs),
+        least: counted(least),
+        greatest: bound(greatest),
+        reference: counted(reference),
     }
 }
 
@@ -101,42 +104,35 @@ fn annotation(numbers: &[u64; 7]) -> Annotation
 fn sample(x: u64) -> u64
     ensures { result ≡ (x + (base + base)) % 2 ^ 64 }
 {
-    std::num::wrapping_add_u64(x, 8_000_000_000)
+    x.wrapping_add(2 * BASE)
 }
 
 // Whether a number is in range.
 fn in_range(v: u64) -> bool
     ensures { result ≡ in_range v }
 {
-    (3_000_000_000 <= v) & (v <= 5_000_000_000)
+    (FIRST <= v) & (v <= LAST)
 }
 
 // Whether a bound is in range.
-fn bound_in_range(b: Bound) -> bool
+fn bound_in_range(b: Option<u64>) -> bool
     ensures { result ≡ bound_in_range b }
 {
-    match b {
-        Bound::Open => true,
-        Bound::At(v) => in_range(v),
-    }
+    b.is_none_or(in_range)
 }
 
 // Whether every number of an annotation is in range.
+#[tactic(auto, unfolding(time::specs::Annotations::annotation_in_range))]
 fn annotation_in_range(a: Annotation) -> bool
     ensures { result ≡ annotation_in_range a }
 {
-    let ess = a.ess;
-    let lss = a.lss;
-    let efs = a.efs;
-    let lfs = a.lfs;
-    let greatest = a.greatest;
-    bound_in_range(ess)
-        & bound_in_range(lss)
-        & bound_in_range(efs)
-        & bound_in_range(lfs)
+    bound_in_range(a.ess)
+        & bound_in_range(a.lss)
+        & bound_in_range(a.efs)
+        & bound_in_range(a.lfs)
         & in_range(a.least)
         & (BASE <= a.least)
-        & bound_in_range(greatest)
+        & bound_in_range(a.greatest)
         & in_range(a.reference)
 }
 
@@ -146,10 +142,8 @@ fn in_order(samples: &[u64], asked: u64) -> bool
     ensures { result ≡ in_order samples.now asked }
 {
     let mut until = asked + 1;
-    let mut i = samples.len();
-    while 0 < i {
-        i -= 1;
-        let t = sample(samples[i]) / 2;
+    for &x in samples.iter().rev() {
+        let t = sample(x) / 2;
         if until <= t {
             return false;
         }
@@ -162,59 +156,44 @@ fn in_order(samples: &[u64], asked: u64) -> bool
 fn samples_in_range(samples: &[u64]) -> bool
     ensures { result ≡ every (λ i. in_range (minute_at samples.now i)) (length samples.now) }
 {
-    let mut i = 0;
-    while i < samples.len() {
-        if !in_range(sample(samples[i]) / 2) {
-            return false;
-        }
-        i += 1;
-    }
-    true
+    samples.iter().all(|&x| in_range(sample(x) / 2))
 }
 
 // The same of samples in order, whose first minute tells it: they end by the minute of asking.
+#[tactic(auto, using(time::proofs::Histories::first_tells), unfolding(time::specs::Patterns::every))]
 fn ordered_in_range(samples: &[u64], asked: u64) -> bool
     requires { (in_order samples.now asked ≡ true) × (asked ≤ 5000000000) }
     ensures { result ≡ every (λ i. in_range (minute_at samples.now i)) (length samples.now) }
 {
-    if samples.len() == 0 {
-        return true;
-    }
-    3_000_000_000 <= sample(samples[0]) / 2
+    samples.first().is_none_or(|&x| FIRST <= sample(x) / 2)
 }
 
 // Checks 18 to 20 of the samples. Where they are in order, one minute tells 18; where they are not, all must be looked at.
+#[tactic(auto, using(time::proofs::Histories::refuses_range, time::proofs::Histories::refuses_many, time::proofs::Histories::refuses_order, time::proofs::Histories::passes))]
 fn check_samples(samples: &[u64], asked: u64) -> Result<(), Refusal>
     requires { asked ≤ 5000000000 }
     ensures { result ≡ samples_check samples.now asked }
 {
-    if in_order(samples, asked) {
-        return check_ordered(samples, asked);
-    }
-    if !samples_in_range(samples) {
+    let ordered = in_order(samples, asked);
+    let ranged = if ordered {
+        ordered_in_range(samples, asked)
+    } else {
+        samples_in_range(samples)
+    };
+    if !ranged {
         return Err(Refusal::ValueRange);
     }
-    if 1024 < samples.len() {
+    if MOST < samples.len() {
         return Err(Refusal::ManySamples);
     }
-    Err(Refusal::TimesOrder)
-}
-
-// Checks 18 and 19 of samples in order.
-fn check_ordered(samples: &[u64], asked: u64) -> Result<(), Refusal>
-    requires { (in_order samples.now asked ≡ true) × (asked ≤ 5000000000) }
-    ensures { result ≡ samples_check samples.now asked }
-{
-    if !ordered_in_range(samples, asked) {
-        return Err(Refusal::ValueRange);
-    }
-    if 1024 < samples.len() {
-        return Err(Refusal::ManySamples);
+    if !ordered {
+        return Err(Refusal::TimesOrder);
     }
     Ok(())
 }
 
 // Checks 18 to 20.
+#[tactic(auto, using(time::proofs::Histories::refuses_first, time::proofs::Histories::passes_first))]
 fn check(a: Annotation, samples: &[u64], asked: u64) -> Result<(), Refusal>
     ensures { result ≡ pattern_check a samples.now asked }
 {
@@ -224,73 +203,33 @@ fn check(a: Annotation, samples: &[u64], asked: u64) -> Result<(), Refusal>
     check_samples(samples, asked)
 }
 
-// A least bound with the reference point added; an open one lies before all minutes.
-fn low(b: Bound, reference: u64) -> u64
-    requires { NearBound b × Near reference }
-    ensures is { result ≡ low b reference }
+// A bound with the reference point added; an open one as the minute that stands for it.
+fn placed(beyond: u64, b: Option<u64>, reference: u64) -> u64
+    requires { Small beyond × NearBound b × Near reference }
+    ensures is { result ≡ placed beyond b reference }
     ensures small { Small result }
 {
-    match b {
-        Bound::Open => 0,
-        Bound::At(v) => reference + v - BASE,
-    }
+    b.map_or(beyond, |v| reference + v - BASE)
 }
 
-// A greatest bound with the reference point added; an open one lies beyond all minutes that are asked about.
-fn high(b: Bound, reference: u64) -> u64
-    requires { NearBound b × Near reference }
-    ensures is { result ≡ high far b reference }
-    ensures small { Small result }
-{
-    match b {
-        Bound::Open => 20_000_000_000,
-        Bound::At(v) => reference + v - BASE,
-    }
-}
-
-// The window of an annotation whose reference point is there.
+// The window of an annotation whose reference point is there. An open bound lies before all minutes, or beyond all that are asked about.
 fn window(a: Annotation, reference: u64) -> Window
     requires { NearAll a × Near reference }
     ensures is { result ≡ window a reference }
     ensures small { SmallWindow result }
 {
-    let ess = a.ess;
-    let lss = a.lss;
-    let efs = a.efs;
-    let lfs = a.lfs;
-    let greatest = a.greatest;
     Window {
-        ess: low(ess, reference),
-        lss: high(lss, reference),
-        efs: low(efs, reference),
-        lfs: high(lfs, reference),
+        ess: placed(0, a.ess, reference),
+        lss: placed(FAR, a.lss, reference),
+        efs: placed(0, a.efs, reference),
+        lfs: placed(FAR, a.lfs, reference),
         least: a.least,
-        greatest: high(greatest, BASE),
+        greatest: placed(FAR, a.greatest, BASE),
     }
 }
 
-// The later of two minutes.
-fn later(x: u64, y: u64) -> u64
-    ensures { result ≡ max x y }
-{
-    if x <= y { y } else { x }
-}
-
-// The earlier of two minutes.
-fn earlier(x: u64, y: u64) -> u64
-    ensures { result ≡ min x y }
-{
-    if x <= y { x } else { y }
-}
-
-// The difference, or 0 where that is less than nothing.
-fn less(x: u64, y: u64) -> u64
-    ensures { result ≡ x - y }
-{
-    if x <= y { 0 } else { x - y }
-}
-
 // Whether the interval from t1 to t2 lies in a window.
+#[tactic(auto, unfolding(time::specs::Search::admitted))]
 fn admits(w: Window, t1: u64, t2: u64) -> bool
     requires { SmallWindow w × Worked t1 × Worked t2 }
     ensures { result ≡ admitted w t1 t2 }
@@ -304,208 +243,162 @@ fn admits(w: Window, t1: u64, t2: u64) -> bool
 }
 
 // What is left of a run from b that is over at the minute `past`: the one interval in it that can satisfy, or nothing.
+#[tactic(auto, unfolding(time::specs::Search::over))]
 fn over(w: Window, b: u64, past: u64) -> Pass
     requires { SmallWindow w × Named b × Named past }
     ensures is { result ≡ over w b past }
     ensures named { NamedPass result }
 {
-    let first = later(w.ess, b);
-    let last = earlier(w.lfs, less(past, 1));
+    let first = w.ess.max(b);
+    let last = w.lfs.min(past.saturating_sub(1));
     if admits(w, first, last) {
         return Pass::Found { first, last };
     }
     Pass::Off
 }
 
-// What a sample makes of a pass: it starts a run, goes on with one, or ends one.
+// What a sample makes of a pass: it starts a run, ends one, or goes on with what there is.
 fn next(w: Window, pass: Pass, t: u64, truth: bool) -> Pass
     requires { SmallWindow w × NamedPass pass × Named t }
     ensures is { result ≡ next w pass t truth }
     ensures named { NamedPass result }
 {
-    match pass {
-        Pass::Found { first, last } => Pass::Found { first, last },
-        Pass::Off => {
-            if truth {
-                return Pass::Since(t);
-            }
-            Pass::Off
-        }
-        Pass::Since(b) => {
-            if truth {
-                return Pass::Since(b);
-            }
-            over(w, b, t)
-        }
-    }
-}
-
-// Whether a pass has found an interval.
-fn is_found(pass: Pass) -> bool
-    ensures { result ≡ is_found pass }
-{
-    match pass {
-        Pass::Found { first: _, last: _ } => true,
-        Pass::Off => false,
-        Pass::Since(_) => false,
+    match (pass, truth) {
+        (Pass::Off, true) => Pass::Since(t),
+        (Pass::Since(b), false) => over(w, b, t),
+        _ => pass,
     }
 }
 
 // The pass over the samples, as far as an interval that satisfies.
+#[tactic(auto, unfolding(time::specs::Search::pass_to))]
 fn passed(w: Window, samples: &[u64]) -> Pass
     requires { SmallWindow w }
     ensures is { result ≡ pass_to w samples.now (length samples.now) }
     ensures named { NamedPass result }
 {
     let mut pass = Pass::Off;
-    let mut i = 0;
-    while i < samples.len() {
-        let s = sample(samples[i]);
+    for &x in samples {
+        let s = sample(x);
         pass = next(w, pass, s / 2, s % 2 == 1);
-        if is_found(pass) {
+        if matches!(pass, Pass::Found { .. }) {
             return pass;
         }
-        i += 1;
     }
     pass
 }
 
+// The first finish of an interval that starts at t1.
+fn finish(w: Window, t1: u64) -> u64
+    requires { SmallWindow w × (t1 ≤ 2 ^ 63 + 10 ^ 12) }
+    ensures { result ≡ finish w t1 }
+{
+    w.efs.max((t1 + w.least).saturating_sub(BASE))
+}
+
 // Whether a run from b that goes on at the minute of asking can satisfy.
+#[tactic(auto, unfolding(time::specs::Search::goes_on))]
 fn goes_on(w: Window, b: u64, asked: u64) -> bool
     requires { SmallWindow w × Named b × Named asked }
     ensures { result ≡ goes_on w b asked }
 {
-    let first = later(w.ess, b);
-    let finish = later(w.efs, less(first + w.least, BASE));
-    admits(w, first, later(asked, finish))
+    let first = w.ess.max(b);
+    admits(w, first, asked.max(finish(w, first)))
 }
 
 // Whether a run that starts at the minute k or later can satisfy.
+#[tactic(auto, unfolding(time::specs::Search::starts_from))]
 fn starts_from(w: Window, k: u64) -> bool
     requires { SmallWindow w × (k ≤ 2 ^ 63 + 2) }
     ensures { result ≡ starts_from w k }
 {
-    let first = later(k, later(w.ess, less(w.efs + BASE, w.greatest)));
-    admits(w, first, later(w.efs, less(first + w.least, BASE)))
+    let first = k.max(w.ess.max((w.efs + BASE).saturating_sub(w.greatest)));
+    admits(w, first, finish(w, first))
 }
 
 // Whether some continuation can satisfy, of what a pass was left with.
+#[tactic(auto, unfolding(time::specs::Search::can_be))]
 fn can_be(w: Window, pass: Pass, asked: u64) -> bool
     requires { SmallWindow w × NamedPass pass × Named asked }
     ensures { result ≡ can_be w pass asked }
 {
     match pass {
-        Pass::Found { first: _, last: _ } => true,
+        Pass::Found { .. } => true,
         Pass::Off => starts_from(w, asked + 1),
         Pass::Since(b) => goes_on(w, b, asked) | starts_from(w, asked + 2),
     }
 }
 
-// The answer where nothing satisfies yet.
-fn not_yet(w: Window, pass: Pass, asked: u64) -> Judgement
-    requires { SmallWindow w × NamedPass pass × Named asked }
-    ensures { result ≡ not_yet (can_be w pass asked) }
-{
-    if can_be(w, pass, asked) {
-        return Judgement::Satisfiable;
-    }
-    Judgement::Neither
-}
-
 // The answer, of what a pass was left with: a run that goes on is over after the minute of asking.
+#[tactic(auto, unfolding(time::specs::Search::answer))]
 fn answer(w: Window, pass: Pass, asked: u64) -> Judgement
     requires { SmallWindow w × NamedPass pass × (asked ≤ 5000000000) }
     ensures { result ≡ answer w pass asked }
 {
     match next(w, pass, asked + 1, false) {
         Pass::Found { first, last } => Judgement::Satisfied { first, last },
-        Pass::Off => not_yet(w, pass, asked),
-        Pass::Since(_) => not_yet(w, pass, asked),
+        _ if can_be(w, pass, asked) => Judgement::Satisfiable,
+        _ => Judgement::Neither,
     }
 }
 
 // The larger of two least bounds.
-fn larger(x: Bound, y: Bound) -> Bound
+fn larger(x: Option<u64>, y: Option<u64>) -> Option<u64>
     ensures { result ≡ larger x y }
 {
-    match x {
-        Bound::Open => y,
-        Bound::At(v) => match y {
-            Bound::Open => Bound::At(v),
-            Bound::At(w) => Bound::At(later(v, w)),
-        },
+    match (x, y) {
+        (Some(v), Some(w)) => Some(v.max(w)),
+        _ => x.or(y),
     }
 }
 
 // The smaller of two greatest bounds.
-fn smaller(x: Bound, y: Bound) -> Bound
+fn smaller(x: Option<u64>, y: Option<u64>) -> Option<u64>
     ensures { result ≡ smaller x y }
 {
-    match x {
-        Bound::Open => y,
-        Bound::At(v) => match y {
-            Bound::Open => Bound::At(v),
-            Bound::At(w) => Bound::At(earlier(v, w)),
-        },
+    match (x, y) {
+        (Some(v), Some(w)) => Some(v.min(w)),
+        _ => x.or(y),
     }
 }
 
 // The difference of two bounds.
-fn minus(x: Bound, y: Bound) -> Bound
+fn minus(x: Option<u64>, y: Option<u64>) -> Option<u64>
     requires { NearBound x × NearBound y }
     ensures { result ≡ minus x y }
 {
-    match x {
-        Bound::Open => Bound::Open,
-        Bound::At(v) => match y {
-            Bound::Open => Bound::Open,
-            Bound::At(w) => Bound::At(v + BASE - w),
-        },
-    }
+    Some(x? + BASE - y?)
 }
 
 // The sum of two bounds.
-fn plus(x: Bound, y: Bound) -> Bound
+fn plus(x: Option<u64>, y: Option<u64>) -> Option<u64>
     requires { NearBound x × NearBound y }
     ensures { result ≡ plus x y }
 {
-    match x {
-        Bound::Open => Bound::Open,
-        Bound::At(v) => match y {
-            Bound::Open => Bound::Open,
-            Bound::At(w) => Bound::At(v + w - BASE),
-        },
-    }
+    Some(x? + y? - BASE)
 }
 
 // The larger of a number and a bound.
-fn larger_number(v: u64, y: Bound) -> u64
+fn larger_number(v: u64, y: Option<u64>) -> u64
     ensures { result ≡ larger_number v y }
 {
-    match y {
-        Bound::Open => v,
-        Bound::At(w) => later(v, w),
-    }
+    y.map_or(v, |w| v.max(w))
 }
 
 // Document 001's six formulas, all from the old values.
+#[tactic(auto, unfolding(time::specs::Normal::normal))]
 fn normal(a: Annotation) -> Annotation
     requires { NearAll a }
     ensures { result ≡ normal a }
 {
-    let ess = a.ess;
-    let lss = a.lss;
-    let efs = a.efs;
-    let lfs = a.lfs;
-    let least = Bound::At(a.least);
-    let greatest = a.greatest;
+    let least = Some(a.least);
     Annotation {
-        ess: larger(ess, minus(efs, greatest)),
-        lss: smaller(lss, minus(lfs, least)),
-        efs: larger(efs, plus(ess, least)),
-        lfs: smaller(lfs, plus(lss, greatest)),
-        least: larger_number(a.least, minus(efs, lss)),
-        greatest: smaller(greatest, minus(lfs, ess)),
+        ess: larger(a.ess, minus(a.efs, a.greatest)),
+        lss: smaller(a.lss, minus(a.lfs, least)),
+        efs: larger(a.efs, plus(a.ess, least)),
+        lfs: smaller(a.lfs, plus(a.lss, a.greatest)),
+        least: larger_number(a.least, minus(a.efs, a.lss)),
+        greatest: smaller(a.greatest, minus(a.lfs, a.ess)),
         reference: a.reference,
     }
 }
@@ -514,34 +407,27 @@ fn normal(a: Annotation) -> Annotation
 fn plain(v: u64) -> u64
     ensures { result ≡ plain v }
 {
-    std::num::wrapping_add_u64(v, 0xffff_ffff_1194_d800)
+    v.wrapping_sub(BASE)
 }
 
 // A bound as it is handed out.
-fn number(b: Bound) -> u64
+fn number(b: Option<u64>) -> u64
     ensures { result ≡ number_of b }
 {
-    match b {
-        Bound::Open => NONE,
-        Bound::At(v) => plain(v),
-    }
+    b.map_or(NONE, plain)
 }
 
-// Puts an annotation where one was handed in.
-fn put(a: Annotation, numbers: &mut [u64])
-    requires { length numbers.old ≡ 7 }
-    ensures { numbers.new ≡ numbers_of a }
+// An annotation as it is handed out.
+fn numbers_of(a: Annotation) -> [u64; 7]
+    ensures { result ≡ numbers_of a }
 {
-    let ess = a.ess;
-    let lss = a.lss;
-    let efs = a.efs;
-    let lfs = a.lfs;
-    let greatest = a.greatest;
-    numbers[0] = number(ess);
-    numbers[1] = number(lss);
-    numbers[2] = number(efs);
-    numbers[3] = number(lfs);
-    numbers[4] = plain(a.least);
-    numbers[5] = number(greatest);
-    numbers[6] = plain(a.reference);
+    [
+        number(a.ess),
+        number(a.lss),
+        number(a.efs),
+        number(a.lfs),
+        plain(a.least),
+        number(a.greatest),
+        plain(a.reference),
+    ]
 }

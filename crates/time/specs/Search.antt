@@ -10,14 +10,17 @@ use Rattle.time.specs.declared.Pass.TheVariants.{Found, Off, Since}
 use Rattle.time.specs.declared.Judgement.{Judgement}
 use Rattle.time.specs.declared.Judgement.TheVariants.{Satisfied, Satisfiable, Neither}
 
--- a bound with the reference point added; an open one lies before all minutes, or beyond those that are asked about
+-- a bound with the reference point added; an open one lies at the minute `beyond`
+abbrev pub placed : ℕ → Option ℕ → ℕ → ℕ
+placed beyond None r = beyond
+placed beyond (Some v) r = r + v - base
+
+-- before all minutes, or beyond those that are asked about
 abbrev pub low : Option ℕ → ℕ → ℕ
-low None r = 0
-low (Some v) r = r + v - base
+low x r = placed 0 x r
 
 abbrev pub high : ℕ → Option ℕ → ℕ → ℕ
-high beyond None r = beyond
-high beyond (Some v) r = r + v - base
+high beyond x r = placed beyond x r
 
 abbrev pub window_to : ℕ → Annotation → ℕ → Window
 window_to beyond a r =

@@ -38,4 +38,4 @@ returns c =
     (sym c.annotation_in_range.ensures ∙ c.if-not-annotation_in_range.false)
     (ap (λ (w : Window). starts_from w 0) (sym c.window.ensures.is) ∙ sym c.starts_from.ensures ∙ c.if-not-starts_from.false)
     (rw (← c.normal-n.ensures) (sym c.annotation_in_range-2.ensures ∙ c.if-not-annotation_in_range-2.false))
-    (c.put.ensures ∙ ap numbers_of c.normal-n.ensures)
+    (c.numbers_of.ensures ∙ ap numbers_of c.normal-n.ensures)

@@ -1,24 +1,27 @@
--- `samples_in_range` meets its contract: the minutes passed are in range. Assumes nothing.
-use Rattle.std.proofs.Common.{◌≡◌, true, false, length, refl, sym, ◌∙◌, arith}
-use Rattle.time.specs.Annotations.{in_range}
+-- `samples_in_range` meets its contract. Assumes nothing.
+use Rattle.std.proofs.Common.{rules, ◌≡◌, ◌<◌, ◌/◌, ◌+◌, ◌%◌, ◌^◌, ℕ, Bool, true, false, List, length, sym}
+use Rattle.std.proofs.lemmas.Iterator.{cases_from_all, YieldsList-from_slice}
+use Rattle.std.specs.Bool.{MatchBool}
+use Rattle.std.specs.List.{AllWithin, HoldsAt}
+use borrow.Author.Tests.{tests}
+use Rattle.time.specs.Annotations.{base, in_range}
 use Rattle.time.specs.Patterns.{every, minute_at}
-use Rattle.time.proofs.Tests.{every_more, every_fails}
+use Rattle.time.proofs.Tests.{every_is, every_fails}
 use Rattle.pattern.proofs.samples_in_range.Goals as goal
 
-pub loop-i-init : goal.loop-i-init
-unfolding every
-loop-i-init c = (omega arith, refl)
+abbrev passes : ℕ → Bool
+passes x = in_range ((x + (base + base)) % 2 ^ 64 / 2)
 
-pub returns-then-not-in_range : goal.returns-then-not-in_range
-returns-then-not-in_range c =
-    let samples = c.args.samples.now in
-    let i = c.loop-i.i in
-    let out : in_range (minute_at samples i) ≡ false = rw (← c.sample.ensures) (sym c.in_range.ensures ∙ c.if-not-in_range.true) in
-    sym (every_fails (λ k. in_range (minute_at samples k)) (length samples) i c.loop-i-test.true out)
+every_of :
+    (xs : List ℕ) (r : Bool)
+    → MatchBool r (AllWithin (λ x. passes x ≡ true) xs 0 (length xs)) ((k : ℕ) × (k < length xs) × HoldsAt (λ x. passes x ≡ false) xs k)
+    → r ≡ every (λ i. in_range (minute_at xs i)) (length xs)
+every_of xs true h = sym (every_is (λ i. in_range (minute_at xs i)) (length xs) (λ i l. h i 0 (search rules) l))
+every_of xs false h = sym (every_fails (λ i. in_range (minute_at xs i)) (length xs) h.0 h.1 (h.2 0))
 
-pub loop-i-preserved : goal.loop-i-preserved
-loop-i-preserved c =
-    let samples = c.args.samples.now in
-    let i = c.loop-i.i in
-    let here : in_range (minute_at samples i) ≡ true = rw (← c.sample.ensures) (sym c.in_range.ensures ∙ c.if-not-in_range.false) in
-    (omega arith, every_more (λ k. in_range (minute_at samples k)) i c.loop-i.invariant.1 here)
+pub returns : goal.returns
+returns c =
+    every_of c.args.samples.now c.all.result
+    (cases_from_all _ _ _ (λ x. passes x ≡ true) (λ x. passes x ≡ false) c.all.ensures.ran (YieldsList-from_slice c.args.samples.now cc)
+    (λ x q k. search (rules, tests))
+    (λ x q k. search (rules, tests)))
