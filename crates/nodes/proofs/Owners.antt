@@ -1,17 +1,17 @@
 -- Laws of owners, the plans in whose formulas nodes stand, as two passes find them, and of what checks 22 and 9 answer by them.
 -- Assumes nothing.
-use Prim.Native.Nat.{ℕ, zero, suc, ◌+◌, ◌≤◌, ◌<◌}
+use Prim.Native.Nat.{ℕ, zero, suc, ◌+◌, ◌≤◌, ◌<◌, min}
 use native.Mathlib.Omega.{arith}
 use native.Mathlib.Numerals.{add-one}
 use native.Mathlib.Decide.{ℕ_discrete}
-use mathlib.Core.Path.{◌≡◌, refl, sym, ap, ap₂, ◌∙◌}
+use mathlib.Core.Path.{◌≡◌, refl, sym, ap, subst, ◌∙◌}
 use mathlib.Core.Bool.{Bool, true, false, cond, not, ◌&&◌, ◌||◌, true≢false, false≢true, or-true, or-false}
 use mathlib.Core.List.{List, [], ◌∷◌}
 use lib.Count.{ones}
 use lib.Dec.{eqb, leb, ltb}
 use lib.ListN.{length, get_or, set, length-set}
 use lib.Seq.{get_or-set_same, get_or-set_other}
-use borrow.Author.Tests.{eq-eqb, ne_eqb, leb-true, leb-false, le-leb, ltb-true, lt-ltb, le-ltb}
+use borrow.Author.Tests.{eq-eqb, ne_eqb, leb-true, leb-false, le-leb, ltb-true, ltb-false, lt-ltb, le-ltb}
 use Rattle.rules.specs.Bytes.{byte_at}
 use Rattle.rules.specs.Lists.{some, some_below, highest, least}
 use Rattle.rules.specs.Table.{plan_count, entry, body_of, is_body, named, children}
@@ -27,10 +27,11 @@ use Rattle.rules.proofs.Outcomes.{pass, stop, pass_at, stop_at, then_stops}
 use Rattle.children.specs.Sets.{Empty, set_of}
 use Rattle.children.proofs.Sets.{set_ones}
 use Rattle.lowest.specs.Lowest.{Lowest}
-use Rattle.lowest.proofs.Lowest.{lowest_at, lowest_none, ends_here}
+use Rattle.lowest.proofs.Lowest.{lowest_is, lowest_as, lower, lowest_either}
 use Rattle.nodes.specs.Checking.{HasNodes, Uses, asks_node, joins, bad_operands, FirstOwners, Owners, asking}
 use Rattle.nodes.proofs.Operands.{operands_are}
 use Rattle.std.specs.Prelude.{Option, Err, Some, None}
+use Rattle.std.specs.Option.{MatchOption}
 
 -- the highest number that is found is below those looked through
 bounded : (b : Bool) (n x : ℕ) → x ≤ n → cond b n x ≤ n
@@ -293,10 +294,14 @@ one_lacks true true z e h = h
 one_lacks true false z e h = absurd (false≢true e)
 one_lacks false y z e h = refl
 
--- before any node is looked at nobody asks
-pub asking_none : (t : List ℕ) (n : ℕ) → Lowest (asking t 0) n n
-unfolding some_below
-asking_none t n = record { within = omega arith; before = λ p l. refl; found = λ l. absurd (omega arith) }
+-- the lower of two, as the code takes it
+lower_is : (r : Option ℕ) (o x : ℕ) → MatchOption r (x ≡ o) (λ q. x ≡ min q o) → lower r (Some o) ≡ Some x
+lower_is None o x e = ap Some (sym e)
+lower_is (Some q) o x e = ap Some (go (ltb q o) refl)
+  where
+    go : (less : Bool) → ltb q o ≡ less → cond less q o ≡ x
+    go true l = omega (arith, e, ltb-true q o l)
+    go false l = omega (arith, e, ltb-false q o l)
 
 -- Of node i, when owners are known.
 module _
@@ -325,65 +330,47 @@ module _
     unfolding bad_rank
     bad_rank_is counts counted = rw (counted o owner_plan, is, owner_is)
 
-    -- what the search for the lowest plan that asks for too many tests, and what node i changes
-    module _
-        (names : List ℕ)
-        (collected : (q : ℕ) → q < n → get_or names q 0 ≡ set_of t q (λ c. named (entry t c)))
-        (enough : Bool)
-        (says : enough ≡ leb e.a (ones (get_or names o 0)))
-        (lowest : ℕ)
-        (before : Lowest (asking t i) n lowest)
+    -- and what that for the lowest plan that asks for too many tests
+    pub too_many_is :
+        (names : List ℕ) → ((q : ℕ) → q < n → get_or names q 0 ≡ set_of t q (λ c. named (entry t c)))
+        → (enough : Bool) → enough ≡ leb e.a (ones (get_or names o 0))
+        → (eqb e.kind 5 && not enough) ≡ asks_too_many t (owner t i) i
+    unfolding asks_too_many too_many
+    too_many_is names collected enough says =
+        let many =
+        ap not says
+        ∙ not_leb e.a (ones (get_or names o 0))
+        ∙ ap (λ (x : ℕ). ltb x e.a) (ap ones (collected o owner_plan) ∙ set_ones t o (λ c. named (entry t c)))
+        in
+        rw (eq-eqb (owner t i) (owner t i) refl) (rw many (rw (is, owner_is) refl))
+
+    -- after node i the lowest plan that asks for too many is its owner, if that does and none below was found before
+    asks_other : (p : ℕ) → (owner t i ≡ p → ⊥) → asks_too_many t p i ≡ false
+    unfolding asks_too_many
+    asks_other p ne = rw (ne_eqb (owner t i) p ne) refl
+
+    pub asking_one :
+        asks_too_many t (owner t i) i ≡ true → (r : Option ℕ) → Lowest (asking t i) n r
+        → (x : ℕ) → MatchOption r (x ≡ o) (λ q. x ≡ min q o) → Lowest (asking t (i + 1)) n (Some x)
+    unfolding some_below
+    asking_one too_many r before x low =
+        subst (Lowest (asking t (i + 1)) n) (lower_is r o x low)
+        (rw (add-one i)
+        (lowest_either (asking t i) (λ p. asks_too_many t p i) n r (Some o) before
+        (owner_plan, rw owner_is too_many, λ p l. asks_other p (λ e. omega (arith, owner_is)))))
+
+    pub asking_not : asks_too_many t (owner t i) i ≡ false → (r : Option ℕ) → Lowest (asking t i) n r → Lowest (asking t (i + 1)) n r
+    unfolding some_below
+    asking_not enough r before = rw (add-one i) (lowest_as (asking t i) (asking t (suc i)) n r (λ p. same p (ℕ_discrete (owner t i) p)) before)
       where
-        too_many_is : not enough ≡ too_many t (owner t i) (node t i).a
-        unfolding too_many
-        too_many_is =
-            ap not says
-            ∙ not_leb e.a (ones (get_or names o 0))
-            ∙ rw (collected o owner_plan, set_ones t o (λ c. named (entry t c)), is, owner_is) refl
+        same : (p : ℕ) → Dec (owner t i ≡ p) → asking t i p ≡ asking t (suc i) p
+        same p (yes e) = sym (rw (ap (λ (q : ℕ). asks_too_many t q i) (sym e) ∙ enough) (or-false (asking t i p)))
+        same p (no ne) = sym (rw (asks_other p ne) (or-false (asking t i p)))
 
-        asking_other : (p : ℕ) → (owner t i ≡ p → ⊥) → asking t (suc i) p ≡ asking t i p
-        unfolding some_below asks_too_many
-        asking_other p ne = rw (ne_eqb (owner t i) p ne) (or-false (asking t i p))
-
-        asks_here : asks_too_many t o i ≡ (eqb e.kind 5 && not enough)
-        unfolding asks_too_many
-        asks_here = rw (too_many_is, is, owner_is, eq-eqb (owner t i) (owner t i) refl) refl
-
-        asking_here : asking t (suc i) o ≡ (asking t i o || (eqb e.kind 5 && not enough))
-        unfolding some_below
-        asking_here = ap (λ (b : Bool). asking t i o || b) asks_here
-
-        asking_more : (p : ℕ) → asking t i p ≡ true → asking t (suc i) p ≡ true
-        unfolding some_below
-        asking_more p h = rw h
-
-        pub lower : ((eqb e.kind 5 && ltb o lowest) && not enough) ≡ true → Lowest (asking t (i + 1)) n o
-        lower h =
-            let all = all_three (eqb e.kind 5) (ltb o lowest) (not enough) h in
-            let below : o < lowest = ltb-true o lowest all.1 in
-            rw (add-one i)
-            (record {
-              within = omega (arith, owner_plan);
-              before = λ p l. asking_other p (λ q. omega (arith, owner_is)) ∙ before.before p (omega arith);
-              found = λ l. asking_here ∙ rw (all.0, all.2) (or-true (asking t i o));
-            })
-
-        pub keep : ((eqb e.kind 5 && ltb o lowest) && not enough) ≡ false → Lowest (asking t (i + 1)) n lowest
-        keep h =
-            rw (add-one i)
-            (record {
-              within = before.within;
-              before = λ p l. at_plan p l (ℕ_discrete o p);
-              found = λ l. asking_more lowest (before.found l);
-            })
-          where
-            at_plan : (p : ℕ) → p < lowest → Dec (o ≡ p) → asking t (suc i) p ≡ false
-            at_plan p l (yes q) =
-                ap (asking t (suc i)) (sym q)
-                ∙ asking_here
-                ∙ ap₂ ◌||◌ (before.before o (omega arith))
-                (one_lacks (eqb e.kind 5) (ltb o lowest) (not enough) (lt-ltb o lowest (omega arith)) h)
-            at_plan p l (no q) = asking_other p (λ r. q (owner_is ∙ r)) ∙ before.before p l
+-- before any node is looked at nobody asks
+pub asking_none : (t : List ℕ) (n : ℕ) → Lowest (asking t 0) n None
+unfolding some_below
+asking_none t n = λ p l. refl
 
 -- a good node's operands are good
 middle : (x y z : Bool) → (x || y || z) ≡ false → y ≡ false
@@ -400,13 +387,8 @@ wait_is : (t : List ℕ) (n k : ℕ) → HasNodes t n k → (p : ℕ) → bad_wa
 unfolding bad_wait
 wait_is t n k nodes p = rw (nodes.second, nodes.nodes) refl
 
-pub lowest_wait : (t : List ℕ) (n k r : ℕ) → HasNodes t n k → Lowest (asking t k) n r → Lowest (bad_wait t) n r
-lowest_wait t n k r nodes lowest =
-    record {
-      within = lowest.within;
-      before = λ p l. wait_is t n k nodes p ∙ lowest.before p l;
-      found = λ l. wait_is t n k nodes r ∙ lowest.found l;
-    }
+pub lowest_wait : (t : List ℕ) (n k : ℕ) (r : Option ℕ) → HasNodes t n k → Lowest (asking t k) n r → Lowest (bad_wait t) n r
+lowest_wait t n k r nodes = lowest_as (asking t k) (bad_wait t) n r (λ p. sym (wait_is t n k nodes p))
 
 -- before anything is counted no node is used
 pub no_uses : (t buffer : List ℕ) → Empty 256 buffer → length buffer ≡ 256 → Uses t 0 0 buffer
@@ -419,7 +401,7 @@ least_some f n None e h = absurd (true≢false (sym h ∙ none_below f n (nowher
 least_some f n (Some p) e h = (p, e)
 
 least_none : (f : ℕ → Bool) (n : ℕ) → some_below f n ≡ false → least f n ≡ None
-least_none f n h = lowest_none f n n (ends_here f n n (none_true f n h) refl) (omega arith)
+least_none f n h = lowest_is f n None (none_true f n h)
 
 -- Where check 22 stops, before a next check.
 module _ (t : List ℕ) (n k : ℕ) (nodes : HasNodes t n k) (next : Outcome) where
@@ -438,27 +420,27 @@ module _ (t : List ℕ) (n k : ℕ) (nodes : HasNodes t n k) (next : Outcome) wh
         let found = least_some (stray_first t) (plan_count t) _ refl (rw nodes.whole at h) in
         then_stops (formulas_check t) next (Formula 0) (pass _ _ _ few_nodes ∙ stop_at _ _ _ found.0 found.1)
 
-    module _ (first : some_below (stray_first t) n ≡ false) (r : ℕ) (lowest : Lowest (bad_node t) k r) where
+    module _ (first : some_below (stray_first t) n ≡ false) where
       no_stray : least (stray_first t) (plan_count t) ≡ None
       no_stray = least_none (stray_first t) (plan_count t) (rw nodes.whole at first)
 
-      pub bad_node_lem : r < k → (formulas_check t and_then next) ≡ Err (Formula r)
+      pub bad_node_lem : (r : ℕ) → Lowest (bad_node t) k (Some r) → (formulas_check t and_then next) ≡ Err (Formula r)
       unfolding formulas_check
-      bad_node_lem l =
+      bad_node_lem r lowest =
           then_stops (formulas_check t) next (Formula r)
           (pass _ _ _ few_nodes
           ∙ pass_at _ _ _ no_stray
-          ∙ stop_at _ _ _ r (rw (← nodes.nodes) (lowest_at (bad_node t) k r lowest l)))
+          ∙ stop_at _ _ _ r (rw (← nodes.nodes) (lowest_is (bad_node t) k (Some r) lowest)))
 
       pub ranks_next :
-          k ≤ r → (answer : Outcome) → answer ≡ (refuse_at Formula (least (bad_rank t) k) and_then next)
+          Lowest (bad_node t) k None → (answer : Outcome) → answer ≡ (refuse_at Formula (least (bad_rank t) k) and_then next)
           → answer ≡ (formulas_check t and_then next)
       unfolding formulas_check
-      ranks_next l answer e =
+      ranks_next lowest answer e =
           e
           ∙ ap (λ (o : Outcome). o and_then next)
           (sym
           (pass _ _ _ few_nodes
           ∙ pass_at _ _ _ no_stray
-          ∙ pass_at _ _ _ (rw (← nodes.nodes) (lowest_none (bad_node t) k r lowest l))
+          ∙ pass_at _ _ _ (rw (← nodes.nodes) (lowest_is (bad_node t) k None lowest))
           ∙ ap (λ (j : ℕ). refuse_at Formula (least (bad_rank t) j)) (sym nodes.nodes)))

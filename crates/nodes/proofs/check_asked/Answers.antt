@@ -2,7 +2,7 @@
 use Rattle.std.proofs.Common.{refl, sym, ◌∙◌, ℕ}
 use lib.ListN.{get_or-replicate}
 use Rattle.rules.proofs.Outcomes.{pass_at, stop_at, pass_at_last, stop_at_last}
-use Rattle.lowest.proofs.Lowest.{lowest_at, lowest_none}
+use Rattle.lowest.proofs.Lowest.{lowest_is}
 use Rattle.nodes.proofs.Owners.{good_operands, lowest_wait}
 use Rattle.nodes.proofs.check_asked.Goals as goal
 
@@ -14,17 +14,19 @@ own_asked-requires-clause-table c =
     let pre = c.requires.nodes in
     (pre.0, pre.1, λ i l. good_operands _ _ i pre.0.nodes (pre.2 i l))
 
-pub returns-then-bad-k : goal.returns-then-bad-k
-returns-then-bad-k c = sym (stop_at _ _ _ _ (lowest_at _ _ _ c.lowest_bad_rank-bad.ensures c.if-bad-k.true))
+pub returns-in-Some : goal.returns-in-Some
+returns-in-Some c = sym (stop_at _ _ _ _ (lowest_is _ _ _ c.lowest_bad_rank.ensures ∙ c.in-Some.is))
 
-pub returns-then-plan-n : goal.returns-then-plan-n
-returns-then-plan-n c =
+pub returns-in-Some-lowest_asking : goal.returns-in-Some-lowest_asking
+returns-in-Some-lowest_asking c =
+    let wait = lowest_is _ _ _ (lowest_wait _ _ _ _ c.requires.nodes.0 c.lowest_asking.ensures) in
     sym
-    (pass_at _ _ _ (lowest_none _ _ _ c.lowest_bad_rank-bad.ensures c.if-bad-k.false)
-    ∙ stop_at_last _ _ _ (lowest_at _ _ _ (lowest_wait _ _ _ _ c.requires.nodes.0 c.lowest_asking-plan.ensures) c.if-plan-n.true))
+    (pass_at _ _ _ (lowest_is _ _ _ c.lowest_bad_rank.ensures ∙ c.in_default.is)
+    ∙ stop_at_last _ _ _ (wait ∙ c.in-Some-lowest_asking.is))
 
 pub returns : goal.returns
 returns c =
+    let wait = lowest_is _ _ _ (lowest_wait _ _ _ _ c.requires.nodes.0 c.lowest_asking.ensures) in
     sym
-    (pass_at _ _ _ (lowest_none _ _ _ c.lowest_bad_rank-bad.ensures c.if-bad-k.false)
-    ∙ pass_at_last _ _ (lowest_none _ _ _ (lowest_wait _ _ _ _ c.requires.nodes.0 c.lowest_asking-plan.ensures) c.if-plan-n.false))
+    (pass_at _ _ _ (lowest_is _ _ _ c.lowest_bad_rank.ensures ∙ c.in_default.is)
+    ∙ pass_at_last _ _ (wait ∙ c.in_default-lowest_asking.is))

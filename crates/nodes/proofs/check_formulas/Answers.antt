@@ -18,15 +18,15 @@ returns-then-k-gt256 c =
 pub count_firsts-requires-clause-uses : goal.count_firsts-requires-clause-uses
 count_firsts-requires-clause-uses c = no_uses _ (replicate 256 0) (λ j l. get_or-replicate {A = ℕ} 256 j 0 0 l) refl
 
-pub returns-then-bad-k : goal.returns-then-bad-k
-returns-then-bad-k c =
+pub returns-in-Some : goal.returns-in-Some
+returns-in-Some c =
     let nodes : HasNodes c.args.table.now c.args.n c.node_count-k.result = rw c.node_count-k.ensures c.requires.0 in
     sym
     (bad_node_lem _ _ _ nodes _ c.if-k-gt256.false (sym c.has_stray_first.ensures ∙ c.if-has_stray_first.false) _
-    c.lowest_bad_node-bad.ensures c.if-bad-k.true)
+    c.in-Some.ensures)
 
 pub returns : goal.returns
 returns c =
     let nodes : HasNodes c.args.table.now c.args.n c.node_count-k.result = rw c.node_count-k.ensures c.requires.0 in
-    ranks_next _ _ _ nodes _ c.if-k-gt256.false (sym c.has_stray_first.ensures ∙ c.if-has_stray_first.false) _
-    c.lowest_bad_node-bad.ensures c.if-bad-k.false _ c.check_asked.ensures
+    ranks_next _ _ _ nodes _ c.if-k-gt256.false (sym c.has_stray_first.ensures ∙ c.if-has_stray_first.false)
+    c.in_default.ensures _ c.check_asked.ensures
