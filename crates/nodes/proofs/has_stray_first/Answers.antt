@@ -1,6 +1,6 @@
 -- `has_stray_first` meets its contract: its closure computes the test. Assumes nothing.
 use Rattle.std.proofs.Common.{rules}
-use Rattle.lowest.proofs.Ranges.{some_from_any}
+use Rattle.rules.proofs.Ranges.{some_from_any}
 use Rattle.nodes.proofs.has_stray_first.Goals as goal
 
 pub returns : goal.returns
