@@ -20,19 +20,25 @@ use formulas::{wait_for, waits_for_none};
 use reading::{entry_at, parent_at, word_at};
 use rules::{Body, Orders, PlanEntry, PlanState, is_set};
 
-// What all plans of a step read: the rule's number, the table and its number of plans, the plans' ranks, the words of their named children
-// and, from n on, how many of these each waits for, the words of their children by old state, the ranks that they pick, their old states
-// and their input words. What of it must hold, each function asks for.
+// What all plans of a step read. What of it must hold, each function asks for.
 #[derive(Clone, Copy)]
 pub struct Scene<'a> {
+    // the number of the rule, which says what children are lost
     pub rule: u32,
+    // the plans' entries, and how many plans there are
     pub table: &'a [u8],
     pub n: usize,
+    // for each plan its rank among its siblings
     pub ranks: &'a [u8],
+    // for each plan its children that are named in its wait-for; from n on, how many of these it waits for
     pub names: &'a [u64],
+    // for each plan its children by old state
     pub sets: &'a [u64],
+    // for each plan the rank that it picks
     pub picks: &'a [u8],
+    // the states before the step
     pub old: &'a [u8],
+    // the plans' input words
     pub words: &'a [u8],
 }
 

@@ -14,7 +14,7 @@ ghost use Rattle.moves.specs.Parents.{parent_state};
 ghost use Rattle.moves.specs.Causes.{cause_of_move, cause_told};
 ghost use Rattle.moves.specs.MoveFacts.{OwnBytes, MoveFacts, CauseFacts};
 
-use family::{may_complete, orders, too_many_lost};
+use family::Scene;
 use reading::{entry_at, parent_at, word_at};
 use rules::{Cause, Condition, PlanState};
 
@@ -23,35 +23,22 @@ use rules::{Cause, Condition, PlanState};
 // To read it beside the list, begin at `let parent`: above that stands what the function is handed, and what is proved of it. `parent` is
 // the parent's new state, `state` the plan's old one; each test asks for the rest itself. Left of `=>` stands what the plan was. A state
 // alone on its line, or behind `return` or `=>`, is what the plan becomes, and `state` there says that it stays, which the list leaves
-// unsaid at Inactive, Ready, Activated and Suspended. Of `PlanState::X` and `Condition::X` read the X. `parent.is(X)`: the parent is X.
+// unsaid at Inactive, Ready, Activated and Suspended. Of `PlanState::X` and `Condition::X` read the X. `parent == X`: the parent is X.
 // Selection is Considered, Possible and Ready, execution Activated and Suspended, ended Completed, Aborted and Rejected.
-// `orders(..).considers`: the parent considers it; likewise `activates` and `retries`. Between tests and between states `|` is or,
+// `scene.orders(..).considers`: the parent considers it; likewise `activates` and `retries`. Between tests and between states `|` is or,
 // between tests `&` is and; `!` before a test is not. `||` is or too: it asks its right side only if the left says no, which spares plans
 // under an Inactive one the rest of the first test.
-// `rule` is the number of the rule, which says what children are lost; `table` has the plans' entries, `words` their input words, `old`
-// the states before the step, `new` the new states of the plans before p, its parent's among them: parents stand before their children,
-// and plans move in table order. n is the number of plans. For each plan, `ranks` has its rank among its siblings, `names` its children
-// that are named in its wait-for and, from n on, how many of these it waits for, `sets` its children by old state, `picks` the rank that
-// it picks.
-pub fn next_state(
-    rule: u32,
-    table: &[u8],
-    n: usize,
-    ranks: &[u8],
-    names: &[u64],
-    sets: &[u64],
-    picks: &[u8],
-    old: &[u8],
-    words: &[u8],
-    new: &[u8],
-    p: usize,
-) -> PlanState
-    requires { MoveFacts table.now n old.now ranks.now names.now sets.now picks.now words.now new.now p }
-    ensures { result ≡ new_state rule table.now old.now words.now
-        (Step·chosen table.now old.now (picks_of picks.now)) new.now p }
+// `scene` is what all plans of a step read (`Scene`): the rule, the table, the old states and input words, and what has been worked out of
+// them beforehand. `new` has the new states of the plans before p, its parent's among them: parents stand before their children, and
+// plans move in table order.
+pub fn next_state(scene: &Scene, new: &[u8], p: usize) -> PlanState
+    requires { MoveFacts scene.now.table.now scene.now.n scene.now.old.now scene.now.ranks.now scene.now.names.now
+        scene.now.sets.now scene.now.picks.now scene.now.words.now new.now p }
+    ensures { result ≡ new_state scene.now.rule scene.now.table.now scene.now.old.now scene.now.words.now
+        (Step·chosen scene.now.table.now scene.now.old.now (picks_of scene.now.picks.now)) new.now p }
 {
-    let parent = parent_state(table, new, p);
-    let state = PlanState::from(old[p]);
+    let parent = parent_state(scene.table, new, p);
+    let state = PlanState::from(scene.old[p]);
     // by the parent's new state: Inactive or selection
     if (parent == PlanState::Inactive) || parent.in_selection() {
         return PlanState::Inactive;
@@ -69,60 +56,52 @@ pub fn next_state(
     // what is left, Activated or Suspended: by the plan's old state
     match state {
         PlanState::Inactive => {
-            if orders(table, ranks, names, sets, picks, old, words, parent, p).considers {
+            if scene.orders(parent, p).considers {
                 PlanState::Considered
             } else {
                 state
             }
         }
         PlanState::Considered => {
-            if holds(Condition::Filter, table, words, p) {
+            if holds(Condition::Filter, scene, p) {
                 PlanState::Possible
-            } else if !satisfiable(Condition::Filter, table, words, p) {
+            } else if !satisfiable(Condition::Filter, scene, p) {
                 PlanState::Rejected
             } else {
                 state
             }
         }
         PlanState::Possible => {
-            if holds(Condition::Setup, table, words, p) {
+            if holds(Condition::Setup, scene, p) {
                 PlanState::Ready
-            } else if !satisfiable(Condition::Setup, table, words, p) {
+            } else if !satisfiable(Condition::Setup, scene, p) {
                 PlanState::Rejected
             } else {
                 state
             }
         }
         PlanState::Ready => {
-            if orders(table, ranks, names, sets, picks, old, words, parent, p).activates {
+            if scene.orders(parent, p).activates {
                 PlanState::Activated
             } else {
                 state
             }
         }
         PlanState::Activated => {
-            if holds(Condition::Abort, table, words, p)
-                | too_many_lost(rule, table, n, names, sets, p)
-            {
+            if holds(Condition::Abort, scene, p) | scene.too_many_lost(p) {
                 PlanState::Aborted
-            } else if (parent == PlanState::Suspended) | holds(Condition::Suspend, table, words, p) {
+            } else if (parent == PlanState::Suspended) | holds(Condition::Suspend, scene, p) {
                 PlanState::Suspended
-            } else if holds(Condition::Complete, table, words, p)
-                & may_complete(table, n, names, sets, p)
-            {
+            } else if holds(Condition::Complete, scene, p) & scene.may_complete(p) {
                 PlanState::Completed
             } else {
                 state
             }
         }
         PlanState::Suspended => {
-            if holds(Condition::Abort, table, words, p)
-                | too_many_lost(rule, table, n, names, sets, p)
-            {
+            if holds(Condition::Abort, scene, p) | scene.too_many_lost(p) {
                 PlanState::Aborted
-            } else if (parent == PlanState::Activated)
-                & holds(Condition::Reactivate, table, words, p)
-            {
+            } else if (parent == PlanState::Activated) & holds(Condition::Reactivate, scene, p) {
                 PlanState::Activated
             } else {
                 state
@@ -131,7 +110,7 @@ pub fn next_state(
         // the plan has ended
         PlanState::Completed | PlanState::Rejected => state,
         PlanState::Aborted => {
-            if orders(table, ranks, names, sets, picks, old, words, parent, p).retries {
+            if scene.orders(parent, p).retries {
                 PlanState::Considered
             } else {
                 state
@@ -150,15 +129,11 @@ pub fn cause(table: &[u8], old: &[u8], words: &[u8], new: &[u8], p: usize) -> Ca
     let was = PlanState::from(old[p]);
     let state = PlanState::from(new[p]);
     // most plans stay: nothing more is read of them
-    if (state == was) {
+    if state == was {
         return Cause::Unmoved;
     }
-    cause_of_move(
-        parent_state(table, new, p),
-        holds(Condition::Abort, table, words, p),
-        was,
-        state,
-    )
+    let aborts = entry_at(table, p).holds(Condition::Abort, word_at(words, p));
+    cause_of_move(parent_state(table, new, p), aborts, was, state)
 }
 
 // Why a plan went from one state to another: by the parent's new state, and whether the plan's own abort holds.
@@ -166,7 +141,9 @@ fn cause_of_move(parent: PlanState, aborts: bool, was: PlanState, state: PlanSta
     ensures { result ≡ cause_of_move parent aborts was state }
 {
     // under a parent that is not in execution a plan is reset, Rejected or Aborted; under a Suspended one it is suspended
-    if !parent.in_execution() | ((parent == PlanState::Suspended) & (state == PlanState::Suspended)) {
+    if !parent.in_execution()
+        | ((parent == PlanState::Suspended) & (state == PlanState::Suspended))
+    {
         return Cause::Forced;
     }
     // considered, for the first time or again; and what was Ready is activated
@@ -193,17 +170,17 @@ fn parent_state(table: &[u8], states: &[u8], p: usize) -> PlanState
 
 // Whether a condition of plan p holds, by the plan's entry and input word (RULES 4.3). An absent suspend or abort never holds, any other
 // absent condition always.
-fn holds(c: Condition, table: &[u8], words: &[u8], p: usize) -> bool
-    requires { OwnBytes table.now words.now p }
-    ensures { result ≡ Words·holds c (entry table.now p) (word words.now p) }
+fn holds(c: Condition, scene: &Scene, p: usize) -> bool
+    requires { OwnBytes scene.now.table.now scene.now.words.now p }
+    ensures { result ≡ Words·holds c (entry scene.now.table.now p) (word scene.now.words.now p) }
 {
-    entry_at(table, p).holds(c, word_at(words, p))
+    entry_at(scene.table, p).holds(c, word_at(scene.words, p))
 }
 
 // Whether plan p's filter or setup can still be satisfied, or is overridable (RULES 4.5).
-fn satisfiable(c: Condition, table: &[u8], words: &[u8], p: usize) -> bool
-    requires { OwnBytes table.now words.now p }
-    ensures { result ≡ Words·satisfiable c (entry table.now p) (word words.now p) }
+fn satisfiable(c: Condition, scene: &Scene, p: usize) -> bool
+    requires { OwnBytes scene.now.table.now scene.now.words.now p }
+    ensures { result ≡ Words·satisfiable c (entry scene.now.table.now p) (word scene.now.words.now p) }
 {
-    entry_at(table, p).satisfiable(c, word_at(words, p))
+    entry_at(scene.table, p).satisfiable(c, word_at(scene.words, p))
 }
