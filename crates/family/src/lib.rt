@@ -57,7 +57,7 @@ impl<'a> Scene<'a> {
             return ROOT_ORDERS;
         }
         let q = parent_at(self.table, p);
-        let before = PlanState::from(self.old[q]);
+        let before = PlanState::from_byte(self.old[q]);
         let rank = u32::from(self.ranks[p]);
         let siblings = self.children(q);
         let chosen = rank == siblings.chosen_rank(self.names[q], u32::from(self.picks[q]));

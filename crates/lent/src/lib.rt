@@ -115,8 +115,8 @@ fn lowest_bad_state(table: &[u8], n: usize, states: &[u8]) -> usize
         }
         let e = entry_at(table, q);
         let body = e.body_kind();
-        let child = PlanState::from(states[p]);
-        let fits = child_suits(PlanState::from(states[q]), child);
+        let child = PlanState::from_byte(states[p]);
+        let fits = child_suits(PlanState::from_byte(states[q]), child);
         if !fits | breaks_by(body, child, alone[q] == 1, shut[q] == 1) {
             return p;
         }

@@ -38,7 +38,7 @@ pub fn next_state(scene: &Scene, new: &[u8], p: usize) -> PlanState
         (Step·chosen scene.now.table.now scene.now.old.now (picks_of scene.now.picks.now)) new.now p }
 {
     let parent = parent_state(scene.table, new, p);
-    let state = PlanState::from(scene.old[p]);
+    let state = PlanState::from_byte(scene.old[p]);
     // by the parent's new state: Inactive or selection
     if (parent == PlanState::Inactive) || parent.in_selection() {
         return PlanState::Inactive;
@@ -126,8 +126,8 @@ pub fn cause(table: &[u8], old: &[u8], words: &[u8], new: &[u8], p: usize) -> Ca
     requires { CauseFacts table.now old.now words.now new.now p }
     ensures { result ≡ cause_told table.now old.now words.now new.now p }
 {
-    let was = PlanState::from(old[p]);
-    let state = PlanState::from(new[p]);
+    let was = PlanState::from_byte(old[p]);
+    let state = PlanState::from_byte(new[p]);
     // most plans stay: nothing more is read of them
     if state == was {
         return Cause::Unmoved;
@@ -165,7 +165,7 @@ fn parent_state(table: &[u8], states: &[u8], p: usize) -> PlanState
         return PlanState::Activated;
     }
     let q = parent_at(table, p);
-    PlanState::from(states[q])
+    PlanState::from_byte(states[q])
 }
 
 // Whether a condition of plan p holds, by the plan's entry and input word (RULES 4.3). An absent suspend or abort never holds, any other

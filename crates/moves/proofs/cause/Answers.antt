@@ -10,15 +10,15 @@ use Rattle.moves.proofs.cause.Goals as goal
 
 pub returns-then-eq : goal.returns-then-eq
 returns-then-eq c =
-    let was = c.from-was.ensures ∙ sym (state_is _ _) in
-    let state = c.from-state.ensures ∙ sym (state_is _ _) in
-    let same = c.eq.ensures ∙ same_state c.from-state.result c.from-was.result in
+    let was = c.from_byte-was.ensures ∙ sym (state_is _ _) in
+    let state = c.from_byte-state.ensures ∙ sym (state_is _ _) in
+    let same = c.eq.ensures ∙ same_state c.from_byte-state.result c.from_byte-was.result in
     told_stays _ _ _ _ _ _ _ was state _ same c.if-eq.true
 
 pub returns : goal.returns
 returns c =
-    let was = c.from-was.ensures ∙ sym (state_is _ _) in
-    let state = c.from-state.ensures ∙ sym (state_is _ _) in
-    let same = c.eq.ensures ∙ same_state c.from-state.result c.from-was.result in
+    let was = c.from_byte-was.ensures ∙ sym (state_is _ _) in
+    let state = c.from_byte-state.ensures ∙ sym (state_is _ _) in
+    let same = c.eq.ensures ∙ same_state c.from_byte-state.result c.from_byte-was.result in
     let aborts = c.holds-aborts.ensures ∙ ap₂ (λ (e : PlanEntry) (x : ℕ). holds Abort e x) c.entry_at.ensures c.word_at.ensures in
     told_moves _ _ _ _ _ _ _ was state _ same c.if-eq.false _ _ _ c.parent_state.ensures aborts c.cause_of_move.ensures

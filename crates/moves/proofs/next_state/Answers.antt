@@ -67,28 +67,28 @@ pub returns-then-eq : goal.returns-then-eq
 returns-then-eq c =
     let idle = c.eq.ensures ∙ same_state _ Inactive in
     elim c.then-eq.branch [
-      | then-eq-via-then-eq w ↦ under_dormant c.args.scene.now c.args.new.now c.args.p c.parent_state-parent.ensures c.from-state.ensures (first_passes _ idle w.if-eq.true)
+      | then-eq-via-then-eq w ↦ under_dormant c.args.scene.now c.args.new.now c.args.p c.parent_state-parent.ensures c.from_byte-state.ensures (first_passes _ idle w.if-eq.true)
       | then-eq-via-else-eq+then-in_selection w ↦
-          under_dormant c.args.scene.now c.args.new.now c.args.p c.parent_state-parent.ensures c.from-state.ensures
+          under_dormant c.args.scene.now c.args.new.now c.args.p c.parent_state-parent.ensures c.from_byte-state.ensures
           (second_passes idle w.if-eq.false w.in_selection.ensures w.if-in_selection.true)
     ]
 
 pub returns-then-in_selection-2 : goal.returns-then-in_selection-2
 returns-then-in_selection-2 c =
     let begun = neither_passes (c.eq.ensures ∙ same_state _ Inactive) c.if-eq.false c.in_selection.ensures c.if-in_selection.false in
-    under_ended c.args.scene.now c.args.new.now c.args.p c.parent_state-parent.ensures c.from-state.ensures begun (sym c.is_ended.ensures ∙ c.if-is_ended.true)
+    under_ended c.args.scene.now c.args.new.now c.args.p c.parent_state-parent.ensures c.from_byte-state.ensures begun (sym c.is_ended.ensures ∙ c.if-is_ended.true)
     (sym c.in_selection-then-is_ended.ensures ∙ c.if-in_selection-2.true) refl
 
 pub returns-then-in_execution : goal.returns-then-in_execution
 returns-then-in_execution c =
     let begun = neither_passes (c.eq.ensures ∙ same_state _ Inactive) c.if-eq.false c.in_selection.ensures c.if-in_selection.false in
-    under_ended c.args.scene.now c.args.new.now c.args.p c.parent_state-parent.ensures c.from-state.ensures begun (sym c.is_ended.ensures ∙ c.if-is_ended.true)
+    under_ended c.args.scene.now c.args.new.now c.args.p c.parent_state-parent.ensures c.from_byte-state.ensures begun (sym c.is_ended.ensures ∙ c.if-is_ended.true)
     (sym c.in_selection-then-is_ended.ensures ∙ c.if-in_selection-2.false) (sym c.in_execution.ensures ∙ c.if-in_execution.true)
 
 pub returns-then-is_ended : goal.returns-then-is_ended
 returns-then-is_ended c =
     let begun = neither_passes (c.eq.ensures ∙ same_state _ Inactive) c.if-eq.false c.in_selection.ensures c.if-in_selection.false in
-    under_ended c.args.scene.now c.args.new.now c.args.p c.parent_state-parent.ensures c.from-state.ensures begun (sym c.is_ended.ensures ∙ c.if-is_ended.true)
+    under_ended c.args.scene.now c.args.new.now c.args.p c.parent_state-parent.ensures c.from_byte-state.ensures begun (sym c.is_ended.ensures ∙ c.if-is_ended.true)
     (sym c.in_selection-then-is_ended.ensures ∙ c.if-in_selection-2.false) (sym c.in_execution.ensures ∙ c.if-in_execution.false)
 
 pub returns-then-orders : goal.returns-then-orders
@@ -96,7 +96,7 @@ unfolding move_by
 returns-then-orders c =
     let begun = neither_passes (c.eq.ensures ∙ same_state _ Inactive) c.if-eq.false c.in_selection.ensures c.if-in_selection.false in
     let going_on = sym c.is_ended.ensures ∙ c.if-is_ended.false in
-    leads c.args.scene.now c.args.new.now c.args.p c.parent_state-parent.ensures c.from-state.ensures c.in-Inactive.is
+    leads c.args.scene.now c.args.new.now c.args.p c.parent_state-parent.ensures c.from_byte-state.ensures c.in-Inactive.is
     (simp (begun, going_on, ← c.orders.ensures, c.if-orders.true))
 
 pub returns-else-orders : goal.returns-else-orders
@@ -104,7 +104,7 @@ unfolding move_by
 returns-else-orders c =
     let begun = neither_passes (c.eq.ensures ∙ same_state _ Inactive) c.if-eq.false c.in_selection.ensures c.if-in_selection.false in
     let going_on = sym c.is_ended.ensures ∙ c.if-is_ended.false in
-    leads c.args.scene.now c.args.new.now c.args.p c.parent_state-parent.ensures c.from-state.ensures c.in-Inactive.is
+    leads c.args.scene.now c.args.new.now c.args.p c.parent_state-parent.ensures c.from_byte-state.ensures c.in-Inactive.is
     (simp (begun, going_on, ← c.orders.ensures, c.if-orders.false, c.in-Inactive.is))
 
 pub returns-then-holds : goal.returns-then-holds
@@ -112,7 +112,7 @@ unfolding move_by
 returns-then-holds c =
     let begun = neither_passes (c.eq.ensures ∙ same_state _ Inactive) c.if-eq.false c.in_selection.ensures c.if-in_selection.false in
     let going_on = sym c.is_ended.ensures ∙ c.if-is_ended.false in
-    leads c.args.scene.now c.args.new.now c.args.p c.parent_state-parent.ensures c.from-state.ensures c.in-Considered.is
+    leads c.args.scene.now c.args.new.now c.args.p c.parent_state-parent.ensures c.from_byte-state.ensures c.in-Considered.is
     (simp (begun, going_on, ← c.holds.ensures, c.if-holds.true))
 
 pub returns-then-not-satisfiable : goal.returns-then-not-satisfiable
@@ -120,7 +120,7 @@ unfolding move_by
 returns-then-not-satisfiable c =
     let begun = neither_passes (c.eq.ensures ∙ same_state _ Inactive) c.if-eq.false c.in_selection.ensures c.if-in_selection.false in
     let going_on = sym c.is_ended.ensures ∙ c.if-is_ended.false in
-    leads c.args.scene.now c.args.new.now c.args.p c.parent_state-parent.ensures c.from-state.ensures c.in-Considered.is
+    leads c.args.scene.now c.args.new.now c.args.p c.parent_state-parent.ensures c.from_byte-state.ensures c.in-Considered.is
     (simp (begun, going_on, ← c.holds.ensures, c.if-holds.false, ← c.satisfiable.ensures, c.if-not-satisfiable.true))
 
 pub returns-else-not-satisfiable : goal.returns-else-not-satisfiable
@@ -128,7 +128,7 @@ unfolding move_by
 returns-else-not-satisfiable c =
     let begun = neither_passes (c.eq.ensures ∙ same_state _ Inactive) c.if-eq.false c.in_selection.ensures c.if-in_selection.false in
     let going_on = sym c.is_ended.ensures ∙ c.if-is_ended.false in
-    leads c.args.scene.now c.args.new.now c.args.p c.parent_state-parent.ensures c.from-state.ensures c.in-Considered.is
+    leads c.args.scene.now c.args.new.now c.args.p c.parent_state-parent.ensures c.from_byte-state.ensures c.in-Considered.is
     (simp (begun, going_on, ← c.holds.ensures, c.if-holds.false, ← c.satisfiable.ensures, c.if-not-satisfiable.false, c.in-Considered.is))
 
 pub returns-then-holds-2 : goal.returns-then-holds-2
@@ -136,7 +136,7 @@ unfolding move_by
 returns-then-holds-2 c =
     let begun = neither_passes (c.eq.ensures ∙ same_state _ Inactive) c.if-eq.false c.in_selection.ensures c.if-in_selection.false in
     let going_on = sym c.is_ended.ensures ∙ c.if-is_ended.false in
-    leads c.args.scene.now c.args.new.now c.args.p c.parent_state-parent.ensures c.from-state.ensures c.in-Possible.is
+    leads c.args.scene.now c.args.new.now c.args.p c.parent_state-parent.ensures c.from_byte-state.ensures c.in-Possible.is
     (simp (begun, going_on, ← c.holds-in-Possible.ensures, c.if-holds-2.true))
 
 pub returns-then-not-satisfiable-2 : goal.returns-then-not-satisfiable-2
@@ -144,7 +144,7 @@ unfolding move_by
 returns-then-not-satisfiable-2 c =
     let begun = neither_passes (c.eq.ensures ∙ same_state _ Inactive) c.if-eq.false c.in_selection.ensures c.if-in_selection.false in
     let going_on = sym c.is_ended.ensures ∙ c.if-is_ended.false in
-    leads c.args.scene.now c.args.new.now c.args.p c.parent_state-parent.ensures c.from-state.ensures c.in-Possible.is
+    leads c.args.scene.now c.args.new.now c.args.p c.parent_state-parent.ensures c.from_byte-state.ensures c.in-Possible.is
     (simp (begun, going_on, ← c.holds-in-Possible.ensures, c.if-holds-2.false, ← c.satisfiable-else-holds-2.ensures, c.if-not-satisfiable-2.true))
 
 pub returns-else-not-satisfiable-2 : goal.returns-else-not-satisfiable-2
@@ -152,7 +152,7 @@ unfolding move_by
 returns-else-not-satisfiable-2 c =
     let begun = neither_passes (c.eq.ensures ∙ same_state _ Inactive) c.if-eq.false c.in_selection.ensures c.if-in_selection.false in
     let going_on = sym c.is_ended.ensures ∙ c.if-is_ended.false in
-    leads c.args.scene.now c.args.new.now c.args.p c.parent_state-parent.ensures c.from-state.ensures c.in-Possible.is
+    leads c.args.scene.now c.args.new.now c.args.p c.parent_state-parent.ensures c.from_byte-state.ensures c.in-Possible.is
     (simp (begun, going_on, ← c.holds-in-Possible.ensures, c.if-holds-2.false, ← c.satisfiable-else-holds-2.ensures, c.if-not-satisfiable-2.false, c.in-Possible.is))
 
 pub returns-then-orders-2 : goal.returns-then-orders-2
@@ -160,7 +160,7 @@ unfolding move_by
 returns-then-orders-2 c =
     let begun = neither_passes (c.eq.ensures ∙ same_state _ Inactive) c.if-eq.false c.in_selection.ensures c.if-in_selection.false in
     let going_on = sym c.is_ended.ensures ∙ c.if-is_ended.false in
-    leads c.args.scene.now c.args.new.now c.args.p c.parent_state-parent.ensures c.from-state.ensures c.in-Ready.is
+    leads c.args.scene.now c.args.new.now c.args.p c.parent_state-parent.ensures c.from_byte-state.ensures c.in-Ready.is
     (simp (begun, going_on, ← c.orders-in-Ready.ensures, c.if-orders-2.true))
 
 pub returns-else-orders-2 : goal.returns-else-orders-2
@@ -168,7 +168,7 @@ unfolding move_by
 returns-else-orders-2 c =
     let begun = neither_passes (c.eq.ensures ∙ same_state _ Inactive) c.if-eq.false c.in_selection.ensures c.if-in_selection.false in
     let going_on = sym c.is_ended.ensures ∙ c.if-is_ended.false in
-    leads c.args.scene.now c.args.new.now c.args.p c.parent_state-parent.ensures c.from-state.ensures c.in-Ready.is
+    leads c.args.scene.now c.args.new.now c.args.p c.parent_state-parent.ensures c.from_byte-state.ensures c.in-Ready.is
     (simp (begun, going_on, ← c.orders-in-Ready.ensures, c.if-orders-2.false, c.in-Ready.is))
 
 pub returns-then-holds-too_many_lost : goal.returns-then-holds-too_many_lost
@@ -177,7 +177,7 @@ returns-then-holds-too_many_lost c =
     let begun = neither_passes (c.eq.ensures ∙ same_state _ Inactive) c.if-eq.false c.in_selection.ensures c.if-in_selection.false in
     let going_on = sym c.is_ended.ensures ∙ c.if-is_ended.false in
     let lost = c.too_many_lost.ensures c.args.scene.now.old.now (c.requires.facts.children _ c.requires.within) in
-    leads c.args.scene.now c.args.new.now c.args.p c.parent_state-parent.ensures c.from-state.ensures c.in-Activated.is
+    leads c.args.scene.now c.args.new.now c.args.p c.parent_state-parent.ensures c.from_byte-state.ensures c.in-Activated.is
     (simp (begun, going_on, ← c.holds-in-Activated.ensures, ← lost, c.if-holds-too_many_lost.true))
 
 pub returns-then-eq-holds : goal.returns-then-eq-holds
@@ -187,7 +187,7 @@ returns-then-eq-holds c =
     let going_on = sym c.is_ended.ensures ∙ c.if-is_ended.false in
     let lost = c.too_many_lost.ensures c.args.scene.now.old.now (c.requires.facts.children _ c.requires.within) in
     let suspended = c.eq-else-holds-too_many_lost.ensures ∙ same_state _ Suspended in
-    leads c.args.scene.now c.args.new.now c.args.p c.parent_state-parent.ensures c.from-state.ensures c.in-Activated.is
+    leads c.args.scene.now c.args.new.now c.args.p c.parent_state-parent.ensures c.from_byte-state.ensures c.in-Activated.is
     (simp (begun, going_on, ← c.holds-in-Activated.ensures, ← lost, c.if-holds-too_many_lost.false, ← suspended, ← c.holds-else-holds-too_many_lost.ensures, c.if-eq-holds.true))
 
 pub returns-then-holds-may_complete : goal.returns-then-holds-may_complete
@@ -198,7 +198,7 @@ returns-then-holds-may_complete c =
     let lost = c.too_many_lost.ensures c.args.scene.now.old.now (c.requires.facts.children _ c.requires.within) in
     let suspended = c.eq-else-holds-too_many_lost.ensures ∙ same_state _ Suspended in
     let complete = c.may_complete.ensures c.args.scene.now.old.now (c.requires.facts.children _ c.requires.within) in
-    leads c.args.scene.now c.args.new.now c.args.p c.parent_state-parent.ensures c.from-state.ensures c.in-Activated.is
+    leads c.args.scene.now c.args.new.now c.args.p c.parent_state-parent.ensures c.from_byte-state.ensures c.in-Activated.is
     (simp (begun, going_on, ← c.holds-in-Activated.ensures, ← lost, c.if-holds-too_many_lost.false, ← suspended, ← c.holds-else-holds-too_many_lost.ensures, c.if-eq-holds.false, ← c.holds-else-eq-holds.ensures, ← complete, c.if-holds-may_complete.true))
 
 pub returns-else-holds-may_complete : goal.returns-else-holds-may_complete
@@ -209,7 +209,7 @@ returns-else-holds-may_complete c =
     let lost = c.too_many_lost.ensures c.args.scene.now.old.now (c.requires.facts.children _ c.requires.within) in
     let suspended = c.eq-else-holds-too_many_lost.ensures ∙ same_state _ Suspended in
     let complete = c.may_complete.ensures c.args.scene.now.old.now (c.requires.facts.children _ c.requires.within) in
-    leads c.args.scene.now c.args.new.now c.args.p c.parent_state-parent.ensures c.from-state.ensures c.in-Activated.is
+    leads c.args.scene.now c.args.new.now c.args.p c.parent_state-parent.ensures c.from_byte-state.ensures c.in-Activated.is
     (simp (begun, going_on, ← c.holds-in-Activated.ensures, ← lost, c.if-holds-too_many_lost.false, ← suspended, ← c.holds-else-holds-too_many_lost.ensures, c.if-eq-holds.false, ← c.holds-else-eq-holds.ensures, ← complete, c.if-holds-may_complete.false, c.in-Activated.is))
 
 pub returns-then-holds-too_many_lost-2 : goal.returns-then-holds-too_many_lost-2
@@ -218,7 +218,7 @@ returns-then-holds-too_many_lost-2 c =
     let begun = neither_passes (c.eq.ensures ∙ same_state _ Inactive) c.if-eq.false c.in_selection.ensures c.if-in_selection.false in
     let going_on = sym c.is_ended.ensures ∙ c.if-is_ended.false in
     let lost = c.too_many_lost-in-Suspended.ensures c.args.scene.now.old.now (c.requires.facts.children _ c.requires.within) in
-    leads c.args.scene.now c.args.new.now c.args.p c.parent_state-parent.ensures c.from-state.ensures c.in-Suspended.is
+    leads c.args.scene.now c.args.new.now c.args.p c.parent_state-parent.ensures c.from_byte-state.ensures c.in-Suspended.is
     (simp (begun, going_on, ← c.holds-in-Suspended.ensures, ← lost, c.if-holds-too_many_lost-2.true))
 
 pub returns-then-eq-holds-2 : goal.returns-then-eq-holds-2
@@ -228,7 +228,7 @@ returns-then-eq-holds-2 c =
     let going_on = sym c.is_ended.ensures ∙ c.if-is_ended.false in
     let lost = c.too_many_lost-in-Suspended.ensures c.args.scene.now.old.now (c.requires.facts.children _ c.requires.within) in
     let active = c.eq-else-holds-too_many_lost-2.ensures ∙ same_state _ Activated in
-    leads c.args.scene.now c.args.new.now c.args.p c.parent_state-parent.ensures c.from-state.ensures c.in-Suspended.is
+    leads c.args.scene.now c.args.new.now c.args.p c.parent_state-parent.ensures c.from_byte-state.ensures c.in-Suspended.is
     (simp (begun, going_on, ← c.holds-in-Suspended.ensures, ← lost, c.if-holds-too_many_lost-2.false, ← active, ← c.holds-else-holds-too_many_lost-2.ensures, c.if-eq-holds-2.true))
 
 pub returns-else-eq-holds-2 : goal.returns-else-eq-holds-2
@@ -238,7 +238,7 @@ returns-else-eq-holds-2 c =
     let going_on = sym c.is_ended.ensures ∙ c.if-is_ended.false in
     let lost = c.too_many_lost-in-Suspended.ensures c.args.scene.now.old.now (c.requires.facts.children _ c.requires.within) in
     let active = c.eq-else-holds-too_many_lost-2.ensures ∙ same_state _ Activated in
-    leads c.args.scene.now c.args.new.now c.args.p c.parent_state-parent.ensures c.from-state.ensures c.in-Suspended.is
+    leads c.args.scene.now c.args.new.now c.args.p c.parent_state-parent.ensures c.from_byte-state.ensures c.in-Suspended.is
     (simp (begun, going_on, ← c.holds-in-Suspended.ensures, ← lost, c.if-holds-too_many_lost-2.false, ← active, ← c.holds-else-holds-too_many_lost-2.ensures, c.if-eq-holds-2.false, c.in-Suspended.is))
 
 pub returns-then-orders-3 : goal.returns-then-orders-3
@@ -246,7 +246,7 @@ unfolding move_by
 returns-then-orders-3 c =
     let begun = neither_passes (c.eq.ensures ∙ same_state _ Inactive) c.if-eq.false c.in_selection.ensures c.if-in_selection.false in
     let going_on = sym c.is_ended.ensures ∙ c.if-is_ended.false in
-    leads c.args.scene.now c.args.new.now c.args.p c.parent_state-parent.ensures c.from-state.ensures c.in-Aborted.is
+    leads c.args.scene.now c.args.new.now c.args.p c.parent_state-parent.ensures c.from_byte-state.ensures c.in-Aborted.is
     (simp (begun, going_on, ← c.orders-in-Aborted.ensures, c.if-orders-3.true))
 
 pub returns-else-orders-3 : goal.returns-else-orders-3
@@ -254,7 +254,7 @@ unfolding move_by
 returns-else-orders-3 c =
     let begun = neither_passes (c.eq.ensures ∙ same_state _ Inactive) c.if-eq.false c.in_selection.ensures c.if-in_selection.false in
     let going_on = sym c.is_ended.ensures ∙ c.if-is_ended.false in
-    leads c.args.scene.now c.args.new.now c.args.p c.parent_state-parent.ensures c.from-state.ensures c.in-Aborted.is
+    leads c.args.scene.now c.args.new.now c.args.p c.parent_state-parent.ensures c.from_byte-state.ensures c.in-Aborted.is
     (simp (begun, going_on, ← c.orders-in-Aborted.ensures, c.if-orders-3.false, c.in-Aborted.is))
 
 pub returns-in-Completed : goal.returns-in-Completed
@@ -263,6 +263,6 @@ returns-in-Completed c =
     let begun = neither_passes (c.eq.ensures ∙ same_state _ Inactive) c.if-eq.false c.in_selection.ensures c.if-in_selection.false in
     let going_on = sym c.is_ended.ensures ∙ c.if-is_ended.false in
     elim c.in-Completed.is [
-      | inl told ↦ leads c.args.scene.now c.args.new.now c.args.p c.parent_state-parent.ensures c.from-state.ensures told (simp (begun, going_on, told))
-      | inr told ↦ leads c.args.scene.now c.args.new.now c.args.p c.parent_state-parent.ensures c.from-state.ensures told (simp (begun, going_on, told))
+      | inl told ↦ leads c.args.scene.now c.args.new.now c.args.p c.parent_state-parent.ensures c.from_byte-state.ensures told (simp (begun, going_on, told))
+      | inr told ↦ leads c.args.scene.now c.args.new.now c.args.p c.parent_state-parent.ensures c.from_byte-state.ensures told (simp (begun, going_on, told))
     ]

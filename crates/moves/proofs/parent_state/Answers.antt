@@ -4,4 +4,4 @@ use Rattle.moves.proofs.Moves.{parent_of_child}
 use Rattle.moves.proofs.parent_state.Goals as goal
 
 pub returns : goal.returns
-returns c = c.from.ensures ∙ parent_of_child _ _ _ _ (omega (arith, c.if-p-eq0.false)) c.parent_at-q.ensures
+returns c = c.from_byte.ensures ∙ parent_of_child _ _ _ _ (omega (arith, c.if-p-eq0.false)) c.parent_at-q.ensures

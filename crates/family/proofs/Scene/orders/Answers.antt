@@ -31,6 +31,6 @@ returns c =
     let picked =
     ap (λ (k : ℕ). eqb k c.chosen_rank.result) ranked.ranked
     ∙ chosen_of t s picks p known ranked.child (c.requires.named.collected q inside) (sym c.from.ensures) in
-    let before = c.from-before.ensures ∙ sym (state_is s q) in
+    let before = c.from_byte-before.ensures ∙ sym (state_is s q) in
     ordered t s w (chosen t s picks) p known ranked c.entry_at-e.ensures c.word_at.ensures picked
     ∙ child_orders t s w (chosen t s picks) _ c.args.after q p child is_parent before
