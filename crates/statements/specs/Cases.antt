@@ -1,13 +1,14 @@
 -- What lines say: examples, each computed. Assumes nothing.
-use Rattle.std.specs.Prelude.{◌≡◌, ℕ, ◌-◌, ◌^◌, List, [], ◌∷◌, refl}
+use Rattle.std.specs.Prelude.{◌≡◌, ℕ, ◌-◌, ◌^◌, List, [], ◌∷◌, refl, Result, Ok, Err}
 use Rattle.rules.specs.Bytes.{text}
-use Rattle.statements.specs.Words.{run, trimmed, word, after, same, no_bound, natural, number, bound, truth}
-use Rattle.statements.specs.Statements.{bounds, one, at, single_keyword, keyword, head_of, says}
+use Rattle.statements.specs.Words.{trimmed, word, after, no_bound, natural, number, bound, truth}
+use Rattle.statements.specs.Statements.{bounds, one, at, statement, says}
+use Rattle.statements.specs.declared.Fault.{Fault}
 use Rattle.statements.specs.declared.Fault.TheVariants.{Unknown, NoNumber, NoDots, NoTruth, More}
 use Rattle.statements.specs.declared.Pair.TheVariants.{Start, Lasts}
 use Rattle.statements.specs.declared.Single.TheVariants.{From}
 use Rattle.statements.specs.declared.Saying.{Saying}
-use Rattle.statements.specs.declared.Saying.TheVariants.{Nothing, Bounds, One, Sample, Wrong}
+use Rattle.statements.specs.declared.Saying.TheVariants.{Nothing, Bounds, One, Sample}
 
 -- a number below 0, in two's complement
 abbrev pub minus : ℕ → ℕ
@@ -39,35 +40,35 @@ read =
     ∷ text "\tfrom\t3\r"
     ∷ []
 
-abbrev meant : List Saying
+abbrev meant : List (Result Saying Fault)
 meant =
-    Nothing
-    ∷ Nothing
-    ∷ Bounds Start (minus 120) no_bound
-    ∷ Bounds Lasts 0 9999999999
-    ∷ One From 0
-    ∷ Sample (minus 179)
-    ∷ Sample 14
-    ∷ Wrong NoNumber
-    ∷ Wrong NoDots
-    ∷ Wrong NoNumber
-    ∷ Wrong NoNumber
-    ∷ Wrong NoNumber
-    ∷ Wrong NoTruth
-    ∷ Wrong More
-    ∷ Wrong Unknown
-    ∷ Wrong NoNumber
-    ∷ Wrong NoNumber
-    ∷ Wrong NoNumber
-    ∷ Wrong More
-    ∷ Wrong More
-    ∷ One From 3
+    Ok Nothing
+    ∷ Ok Nothing
+    ∷ Ok (Bounds Start (minus 120) no_bound)
+    ∷ Ok (Bounds Lasts 0 9999999999)
+    ∷ Ok (One From 0)
+    ∷ Ok (Sample (minus 179))
+    ∷ Ok (Sample 14)
+    ∷ Err NoNumber
+    ∷ Err NoDots
+    ∷ Err NoNumber
+    ∷ Err NoNumber
+    ∷ Err NoNumber
+    ∷ Err NoTruth
+    ∷ Err More
+    ∷ Err Unknown
+    ∷ Err NoNumber
+    ∷ Err NoNumber
+    ∷ Err NoNumber
+    ∷ Err More
+    ∷ Err More
+    ∷ Ok (One From 3)
     ∷ []
 
-each : List (List ℕ) → List Saying
+each : List (List ℕ) → List (Result Saying Fault)
 each [] = []
 each (l ∷ ls) = says l ∷ each ls
 
 lines_say : each read ≡ meant
-unfolding each run trimmed word after same natural number bound truth bounds one at single_keyword keyword head_of says
+unfolding each trimmed word after natural number bound truth bounds one at statement says
 lines_say = refl

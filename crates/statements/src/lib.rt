@@ -1,8 +1,8 @@
-// What one line of a text for `aptime` says: a statement, nothing, or what is wrong with it. `says` is the whole of it on a slice; `run`
-// also finds where a line ends. Assumes nothing.
+// What one line of a text for `aptime` says: a statement, nothing, or what is wrong with it. `says` is the whole of it on a slice.
+// Assumes nothing.
 #![tactic(auto)]
 
-ghost use Rattle.std.specs.Prelude.{◌≡◌, ◌+◌, ◌-◌, ◌%◌, ◌^◌, ◌≤◌, true, length};
+ghost use Rattle.std.specs.Prelude.{◌≡◌, ◌≤◌, cond, length};
 ghost use Rattle.statements.specs.Words as Words;
 ghost use Rattle.statements.specs.Statements as Statements;
 
@@ -23,7 +23,6 @@ pub enum Saying {
         number: u64,
     },
     Sample(u64),
-    Wrong(Fault),
 }
 
 // Statements of two bounds.
@@ -40,8 +39,7 @@ impl Pair {
         ensures { result ≡ Statements.unbound self }
     {
         match self {
-            Pair::Start => OPEN,
-            Pair::Finish => OPEN,
+            Pair::Start | Pair::Finish => OPEN,
             Pair::Lasts => 0,
         }
     }
@@ -67,337 +65,190 @@ pub enum Fault {
 }
 
 // What a line says.
-pub fn says(line: &[u8]) -> Saying
+#[tactic(auto, unfolding(crate::specs::Statements::says))]
+pub fn says(line: &[u8]) -> Result<Saying, Fault>
     ensures { result ≡ Statements.says line.now }
 {
-    let rest = after(line);
-    match head_of(word(line)) {
-        Head::Nothing => Saying::Nothing,
-        Head::Bounds(pair) => bounds(pair, rest),
-        Head::One(single) => one(single, rest),
-        Head::At => at(rest),
-        Head::Unknown => Saying::Wrong(Fault::Unknown),
+    let (word, rest) = first_word(line);
+    if word.is_empty() || word[0] == b'#' {
+        return Ok(Saying::Nothing);
     }
+    statement(word, rest)
 }
 
-// What a line's first word says that it is.
-#[derive(Clone, Copy)]
-enum Head {
-    Nothing,
-    Bounds(Pair),
-    One(Single),
-    At,
-    Unknown,
-}
-
-// What a line is that begins with a word.
-fn head_of(w: &[u8]) -> Head
-    ensures { result ≡ Statements.head_of w.now }
+// What the line of a statement says by its first word and what follows it.
+#[tactic(auto, unfolding(crate::specs::Statements::statement))]
+fn statement(word: &[u8], rest: &[u8]) -> Result<Saying, Fault>
+    ensures { result ≡ Statements.statement word.now rest.now }
 {
-    if (w.len() == 0) | (reading::byte_at(w, 0) == b'#') {
-        return Head::Nothing;
+    if word == b"start".as_slice() {
+        return bounds(Pair::Start, rest);
     }
-    keyword(w)
-}
-
-// A word that a statement of two bounds begins with, or another.
-fn keyword(w: &[u8]) -> Head
-    ensures { result ≡ Statements.keyword w.now }
-{
-    if same(w, b"start") {
-        return Head::Bounds(Pair::Start);
+    if word == b"finish".as_slice() {
+        return bounds(Pair::Finish, rest);
     }
-    if same(w, b"finish") {
-        return Head::Bounds(Pair::Finish);
+    if word == b"lasts".as_slice() {
+        return bounds(Pair::Lasts, rest);
     }
-    if same(w, b"lasts") {
-        return Head::Bounds(Pair::Lasts);
+    if word == b"from".as_slice() {
+        return one(Single::From, rest);
     }
-    single_keyword(w)
-}
-
-// A word that another statement begins with.
-fn single_keyword(w: &[u8]) -> Head
-    ensures { result ≡ Statements.single_keyword w.now }
-{
-    if same(w, b"from") {
-        return Head::One(Single::From);
+    if word == b"at".as_slice() {
+        return at(rest);
     }
-    if same(w, b"at") {
-        return Head::At;
+    if word == b"asked".as_slice() {
+        return one(Single::Asked, rest);
     }
-    if same(w, b"asked") {
-        return Head::One(Single::Asked);
-    }
-    Head::Unknown
+    Err(Fault::Unknown)
 }
 
 // What `A .. B` says behind the first word.
-fn bounds(pair: Pair, s: &[u8]) -> Saying
+#[tactic(auto, unfolding(crate::specs::Statements::bounds))]
+fn bounds(pair: Pair, s: &[u8]) -> Result<Saying, Fault>
     ensures { result ≡ Statements.bounds pair s.now }
 {
-    let dots = after(s);
-    let last = after(dots);
-    say_bounds(
-        pair,
-        bound(word(s), pair.unbound()),
-        same(word(dots), b".."),
-        bound(word(last), OPEN),
-        ends(after(last)),
-    )
-}
-
-// Two bounds, dots between them, and nothing behind.
-fn say_bounds(pair: Pair, a: Value, dots: bool, b: Value, ended: bool) -> Saying
-    ensures { result ≡ Statements.say_bounds pair a dots b ended }
-{
-    match a {
-        Value::Missing => Saying::Wrong(Fault::NoNumber),
-        Value::Is(least) => {
-            if dots {
-                match b {
-                    Value::Missing => Saying::Wrong(Fault::NoNumber),
-                    Value::Is(greatest) => if ended {
-                        Saying::Bounds {
-                            pair,
-                            least,
-                            greatest,
-                        }
-                    } else {
-                        Saying::Wrong(Fault::More)
-                    },
-                }
-            } else {
-                Saying::Wrong(Fault::NoDots)
-            }
-        }
+    let (first, s) = first_word(s);
+    let (dots, s) = first_word(s);
+    let (second, s) = first_word(s);
+    let least = bound(first, pair.unbound()).ok_or(Fault::NoNumber)?;
+    if dots != b"..".as_slice() {
+        return Err(Fault::NoDots);
     }
+    let greatest = bound(second, OPEN).ok_or(Fault::NoNumber)?;
+    end(s)?;
+    Ok(Saying::Bounds {
+        pair,
+        least,
+        greatest,
+    })
 }
 
 // What `N` says there.
-fn one(single: Single, s: &[u8]) -> Saying
+#[tactic(auto, unfolding(crate::specs::Statements::one))]
+fn one(single: Single, s: &[u8]) -> Result<Saying, Fault>
     ensures { result ≡ Statements.one single s.now }
 {
-    say_one(single, number(word(s)), ends(after(s)))
-}
-
-// A number, and nothing behind.
-fn say_one(single: Single, a: Value, ended: bool) -> Saying
-    ensures { result ≡ Statements.say_one single a ended }
-{
-    match a {
-        Value::Missing => Saying::Wrong(Fault::NoNumber),
-        Value::Is(number) => if ended {
-            Saying::One { single, number }
-        } else {
-            Saying::Wrong(Fault::More)
-        },
-    }
+    let (word, s) = first_word(s);
+    let number = number(word).ok_or(Fault::NoNumber)?;
+    end(s)?;
+    Ok(Saying::One { single, number })
 }
 
 // What `N true` or `N false` says there.
-fn at(s: &[u8]) -> Saying
+#[tactic(auto, unfolding(crate::specs::Statements::at))]
+fn at(s: &[u8]) -> Result<Saying, Fault>
     ensures { result ≡ Statements.at s.now }
 {
-    let second = after(s);
-    say_at(number(word(s)), truth(word(second)), ends(after(second)))
-}
-
-// A minute, a truth, and nothing behind.
-fn say_at(a: Value, t: Value, ended: bool) -> Saying
-    ensures { result ≡ Statements.say_at a t ended }
-{
-    match a {
-        Value::Missing => Saying::Wrong(Fault::NoNumber),
-        Value::Is(minute) => match t {
-            Value::Missing => Saying::Wrong(Fault::NoTruth),
-            Value::Is(bit) => if ended {
-                Saying::Sample(sample(minute, bit))
-            } else {
-                Saying::Wrong(Fault::More)
-            },
-        },
-    }
+    let (first, s) = first_word(s);
+    let (second, s) = first_word(s);
+    let minute = number(first).ok_or(Fault::NoNumber)?;
+    let held = truth(second).ok_or(Fault::NoTruth)?;
+    end(s)?;
+    Ok(Saying::Sample(sample(minute, held)))
 }
 
 // A sample as `judge` takes it.
-fn sample(minute: u64, bit: u64) -> u64
-    ensures { result ≡ (minute + minute + bit) % 2 ^ 64 }
+fn sample(minute: u64, held: bool) -> u64
+    ensures { result ≡ Statements.sample minute held }
 {
-    std::num::wrapping_add_u64(std::num::wrapping_add_u64(minute, minute), bit)
+    minute.wrapping_add(minute).wrapping_add(u64::from(held))
 }
 
-// 1 for `true`, 0 for `false`.
-fn truth(w: &[u8]) -> Value
+// That nothing but blanks is left.
+fn end(s: &[u8]) -> Result<(), Fault>
+    ensures { result ≡ cond (Words.ends s.now) (Ok tt) (Err Fault.More) }
+{
+    let (word, _) = first_word(s);
+    if word.is_empty() {
+        Ok(())
+    } else {
+        Err(Fault::More)
+    }
+}
+
+// What `true` and `false` say.
+#[tactic(auto, unfolding(crate::specs::Words::truth))]
+fn truth(w: &[u8]) -> Option<bool>
     ensures { result ≡ Words.truth w.now }
 {
-    if same(w, b"true") {
-        return Value::Is(1);
+    if w == b"true".as_slice() {
+        return Some(true);
     }
-    if same(w, b"false") {
-        return Value::Is(0);
+    if w == b"false".as_slice() {
+        return Some(false);
     }
-    Value::Missing
-}
-
-// What a word is as a number, in two's complement.
-#[derive(Clone, Copy)]
-pub enum Value {
-    Missing,
-    Is(u64),
+    None
 }
 
 // A bound, where `_` stands for `other`.
-fn bound(w: &[u8], other: u64) -> Value
+#[tactic(auto, unfolding(crate::specs::Words::bound))]
+fn bound(w: &[u8], other: u64) -> Option<u64>
     ensures { result ≡ Words.bound w.now other }
 {
-    if same(w, b"_") {
-        return Value::Is(other);
+    if w == b"_".as_slice() {
+        Some(other)
+    } else {
+        number(w)
     }
-    number(w)
 }
 
-// A number: `-` if it is negative, then digits.
-fn number(w: &[u8]) -> Value
+// A number in two's complement: `-` if it is negative, then digits.
+#[tactic(auto, unfolding(crate::specs::Words::number))]
+fn number(w: &[u8]) -> Option<u64>
     ensures { result ≡ Words.number w.now }
 {
-    if reading::byte_at(w, 0) == b'-' {
-        return negative(unsigned(&w[1..]));
-    }
-    unsigned(w)
-}
-
-// A number with its sign changed.
-fn negative(v: Value) -> Value
-    ensures { result ≡ Words.negative v }
-{
-    match v {
-        Value::Missing => Value::Missing,
-        Value::Is(x) => if x == 0 {
-            Value::Is(0)
-        } else {
-            Value::Is(0xffff_ffff_ffff_ffff - x + 1)
-        },
+    match w.strip_prefix(b"-") {
+        Some(digits) => unsigned(digits).map(|x| x.wrapping_neg()),
+        None => unsigned(w),
     }
 }
 
 // A number without a sign, of one to ten digits.
-fn unsigned(w: &[u8]) -> Value
+fn unsigned(w: &[u8]) -> Option<u64>
     ensures { result ≡ Words.unsigned w.now }
 {
-    if w.len() == 0 {
-        return Value::Missing;
-    }
-    if 10 < w.len() {
-        return Value::Missing;
+    if w.is_empty() || 10 < w.len() {
+        return None;
     }
     natural(w)
 }
 
 // Digits as a number: so few that it fits.
-fn natural(s: &[u8]) -> Value
+#[tactic(auto, using(crate::proofs::Scanning::digit_here, crate::proofs::Scanning::digit_stop, crate::proofs::Scanning::digit_end, crate::proofs::Scanning::next_power))]
+fn natural(s: &[u8]) -> Option<u64>
     requires { length s.now ≤ 10 }
     ensures { result ≡ Words.natural 0 s.now }
 {
     let mut v = 0;
-    let mut i = 0;
-    while i < s.len() {
-        let b = s[i];
-        if !is_digit(b) {
-            return Value::Missing;
+    for &b in s {
+        if !b.is_ascii_digit() {
+            return None;
         }
-        v = 10 * v + digit(b);
-        i += 1;
+        v = 10 * v + u64::from(b - b'0');
     }
-    Value::Is(v)
+    Some(v)
 }
 
-// Whether a byte is a digit.
-fn is_digit(b: u8) -> bool
-    ensures { result ≡ Words.is_digit b }
-{
-    (b'0' <= b) & (b <= b'9')
-}
-
-// What a digit counts.
-fn digit(b: u8) -> u64
-    requires { Words.is_digit b ≡ true }
-    ensures { (result ≡ b - 48) × (result ≤ 9) }
-{
-    (b - b'0') as u64
-}
-
-// Whether nothing but blanks is left.
-fn ends(s: &[u8]) -> bool
-    ensures { result ≡ Words.ends s.now }
-{
-    word(s).len() == 0
-}
-
-// The first word of a text.
-fn word(s: &[u8]) -> &[u8]
-    ensures { result.now ≡ Words.word s.now }
+// The first word of a text, and what follows it.
+fn first_word(s: &[u8]) -> (&[u8], &[u8])
+    ensures { (result.0.now ≡ Words.word s.now) × (result.1.now ≡ Words.after s.now) }
 {
     let t = trimmed(s);
-    let k = run(Stretch::Word, t);
-    &t[..k]
-}
-
-// What follows the first word.
-fn after(s: &[u8]) -> &[u8]
-    ensures { result.now ≡ Words.after s.now }
-{
-    let t = trimmed(s);
-    let k = run(Stretch::Word, t);
-    &t[k..]
+    let k = t.iter().position(|&b| is_blank(b)).unwrap_or(t.len());
+    t.split_at(k)
 }
 
 // A text without the blanks before it.
 fn trimmed(s: &[u8]) -> &[u8]
     ensures { result.now ≡ Words.trimmed s.now }
 {
-    let k = run(Stretch::Blanks, s);
+    let k = s.iter().position(|&b| !is_blank(b)).unwrap_or(s.len());
     &s[k..]
 }
 
-// What a stretch of bytes is of.
-#[derive(Clone, Copy)]
-pub enum Stretch {
-    Blanks,
-    Word,
-    Line,
-}
-
-impl Stretch {
-    // Whether a byte belongs to it.
-    fn has(self, b: u8) -> bool
-        ensures { result ≡ Words.has self b }
-    {
-        match self {
-            Stretch::Blanks => b <= 32,
-            Stretch::Word => 32 < b,
-            Stretch::Line => b != 10,
-        }
-    }
-}
-
-// How many bytes a text begins with that belong to a stretch.
-pub fn run(stretch: Stretch, s: &[u8]) -> usize
-    ensures { (result ≡ Words.run stretch s.now) × (result ≤ length s.now) }
+// Whether a byte is a blank.
+fn is_blank(b: u8) -> bool
+    ensures { result ≡ Words.is_blank b }
 {
-    let mut i = 0;
-    while i < s.len() {
-        if !stretch.has(s[i]) {
-            return i;
-        }
-        i += 1;
-    }
-    i
-}
-
-// Whether two words are the same.
-fn same(v: &[u8], w: &[u8]) -> bool
-    ensures { result ≡ Words.same v.now w.now }
-{
-    check::same(v, w)
+    b <= b' '
 }

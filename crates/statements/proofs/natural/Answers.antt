@@ -1,28 +1,13 @@
 -- `natural` meets its contract: digit by digit. Assumes nothing.
-use Rattle.std.proofs.Common.{ℕ, suc, ◌+◌, ◌*◌, drop, sym, ap, ◌∙◌, add-one, arith}
-use Rattle.statements.specs.Words.{natural}
-use Rattle.statements.proofs.Scanning.{digit_here, digit_stop, digit_end, next_power}
+use Rattle.std.proofs.Common.{◌≡◌, true, get_or, sym, ◌∙◌, arith}
+use Rattle.statements.specs.Words.{is_digit}
+use Rattle.statements.proofs.Scanning.{digit_here, next_power}
 use Rattle.statements.proofs.natural.Goals as goal
 
-pub returns-then-not-is_digit : goal.returns-then-not-is_digit
-returns-then-not-is_digit c =
-    sym
-    (c.loop-i.invariant.2
-    ∙ digit_stop c.args.s.now c.loop-i.v c.loop-i.i (omega arith) (sym c.is_digit.ensures ∙ c.if-not-is_digit.true))
-
-pub loop-i-preserved : goal.loop-i-preserved
-loop-i-preserved c =
+pub loop-b-preserved : goal.loop-b-preserved
+loop-b-preserved c =
+    let digit : is_digit (get_or c.args.s.now c.loop-b.b-index 0) ≡ true = sym c.is_ascii_digit.ensures.value ∙ c.if-not-is_ascii_digit.false in
     let s = c.args.s.now in
-    let v = c.loop-i.v in
-    let i = c.loop-i.i in
-    let d = c.digit.result in (
-      omega arith,
-      next_power v d i c.loop-i.invariant.1 c.digit.ensures.1,
-      c.loop-i.invariant.2
-          ∙ digit_here s v i (omega arith) (sym c.is_digit.ensures ∙ c.if-not-is_digit.false)
-          ∙ ap (λ (x : ℕ). natural (10 * v + x) (drop (suc i) s)) (sym c.digit.ensures.0)
-          ∙ ap (λ (k : ℕ). natural (10 * v + d) (drop k s)) (sym (add-one i)),
-    )
-
-pub returns : goal.returns
-returns c = sym (c.loop-i.invariant.2 ∙ digit_end c.args.s.now c.loop-i.v c.loop-i.i (omega arith))
+    let i = c.loop-b.b-index in
+    let more = digit_here s c.loop-b.v i c.loop-b-test.true digit in
+    (omega (arith, c.from.ensures, next_power c.loop-b.v (get_or s i 0) i c.loop-b.invariant.0 digit), cc)
