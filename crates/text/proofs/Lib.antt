@@ -1,4 +1,3 @@
--- Laws for the proofs of this crate and of the programs.
+-- Laws for the proofs of this crate.
 pub mod Decimals
-pub mod Inputs
-pub mod Unique
+pub mod Turns

@@ -1,2 +1,0 @@
--- What the contracts of this crate speak of beside document 01's definitions.
-pub mod Came
