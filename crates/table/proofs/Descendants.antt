@@ -13,6 +13,8 @@ use Rattle.rules.specs.SubTree.{last_descendant}
 use Rattle.rules.proofs.Tree.{above_le}
 use Rattle.lowest.specs.Lowest.{Lowest}
 use Rattle.table.specs.Facts.{outside}
+use Rattle.std.specs.Prelude.{Option, Some, None}
+use Rattle.std.specs.Option.{unwrap_or}
 use Rattle.table.proofs.Climb.{is_self, climb_on}
 
 -- the highest number that passes a test is one that does, where none above it does
@@ -35,6 +37,23 @@ behind t plan d h = ap (λ (b : Bool). b && ltb (parent t d) plan) (lt-ltb plan 
 
 pub not_behind : (t : List ℕ) (plan d : ℕ) → d ≤ plan → outside t plan d ≡ false
 not_behind t plan d h = ap (λ (b : Bool). b && ltb (parent t d) plan) (le-ltb plan d h)
+
+-- plan e is the first behind the plan that is outside its sub tree, or there is none and e is n
+pub record Ends (t : List ℕ) (n plan e : ℕ) : Type 0 where
+  pub here : plan < e
+  pub within : e ≤ n
+  pub before : (k : ℕ) → k < e → outside t plan k ≡ false
+  pub found : e < n → outside t plan e ≡ true
+
+pub ends_at : (t : List ℕ) (n plan : ℕ) → plan < n → (r : Option ℕ) → Lowest (outside t plan) n r → Ends t n plan (unwrap_or r n)
+ends_at t n plan there None none =
+    record { here = there; within = omega arith; before = none; found = λ l. absurd (omega arith) }
+ends_at t n plan there (Some e) (l, out, before) =
+    record { here = go (dec_lt plan e); within = omega arith; before = before; found = λ l. out }
+  where
+    go : Dec (plan < e) → plan < e
+    go (yes h) = h
+    go (no h) = absurd (true≢false (sym out ∙ not_behind t plan e (omega arith)))
 
 module _ (t : List ℕ) (n : ℕ) (down : (k : ℕ) → 0 < k → k < n → parent t k < k) where
   -- what is above a plan above c is above c
@@ -63,8 +82,7 @@ module _ (t : List ℕ) (n : ℕ) (down : (k : ℕ) → 0 < k → k < n → pare
   module _
       (rule : (k : ℕ) → suc k < n → is_or_is_above t (parent t (suc k)) k k ≡ true)
       (plan e : ℕ)
-      (here : plan < e)
-      (lowest : Lowest (outside t plan) n e)
+      (ends : Ends t n plan e)
     where
       -- d is the plan or one of its descendants
       abbrev below : ℕ → Bool
@@ -84,14 +102,14 @@ module _ (t : List ℕ) (n : ℕ) (down : (k : ℕ) → 0 < k → k < n → pare
       all_to (suc bound) d i h l = go (ℕ_discrete plan d) (λ p. all_to bound p)
         where
           w : e ≤ n
-          w = lowest.within
+          w = ends.within
 
           go : Dec (plan ≡ d) → ((p : ℕ) → p < bound → plan ≤ p → p < e → below p ≡ true) → below d ≡ true
           go (yes s) ih = rw (← s) (is_self t plan plan)
           go (no s) ih =
               let later : plan < d = omega arith in
               let up = down d (omega arith) (omega (arith, w)) in
-              let inside = ltb-false (parent t d) plan (sym (behind t plan d later) ∙ lowest.before d l) in
+              let inside = ltb-false (parent t d) plan (sym (behind t plan d later) ∙ ends.before d l) in
               climb_on t n down plan d (omega (arith, w)) later ∙ ih (parent t d) (omega arith) inside (omega arith)
 
       -- none from the end on
@@ -106,7 +124,7 @@ module _ (t : List ℕ) (n : ℕ) (down : (k : ℕ) → 0 < k → k < n → pare
               Dec (e ≡ suc d) → (e ≤ d → d < n → below d ≡ false) → (b : Bool) → below (suc d) ≡ b → below (suc d) ≡ false
           go i ih false b = b
           go (yes i) ih true b =
-              let out = ltb-true (parent t e) plan (sym (behind t plan e here) ∙ lowest.found (omega arith)) in
+              let out = ltb-true (parent t e) plan (sym (behind t plan e ends.here) ∙ ends.found (omega arith)) in
               let before = rw i at out in
               climbs ∙ none_before (parent t (suc d)) (omega arith) before
           go (no i) ih true b =
@@ -129,7 +147,7 @@ module _ (t : List ℕ) (n : ℕ) (down : (k : ℕ) → 0 < k → k < n → pare
       pub last_is : n ≡ plan_count t → last_descendant t plan ≡ e - 1
       unfolding last_descendant
       last_is whole =
-          let w = lowest.within in
+          let w = ends.within in
           rw (← whole)
           (highest_is below n (e - 1) (omega arith) (all_to (suc (e - 1)) (e - 1) (omega arith) (omega arith) (omega arith))
           (λ j h l. none_after j (omega arith) l))

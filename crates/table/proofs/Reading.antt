@@ -31,16 +31,13 @@ use Rattle.children.specs.Sets.{set_before, set_of, Collected}
 use Rattle.lowest.specs.Lowest.{Lowest}
 use Rattle.formulas.specs.Asked.{Numbered}
 use Rattle.table.specs.Facts.{Shaped, waits_check, Known, FactsRoom, Facts, Checked, Prepared}
-use Rattle.lowest.proofs.Lowest.{lowest_at, lowest_none}
-use Rattle.std.specs.Prelude.{Err, Some, None}
+use Rattle.lowest.proofs.Lowest.{lowest_is}
+use Rattle.std.specs.Prelude.{Option, Err, Some, None}
 
 -- a search over n plans is one over the table's plans
-module _ (t : List ℕ) (n : ℕ) (whole : n ≡ plan_count t) (f : ℕ → Bool) (r : ℕ) (lowest : Lowest f n r) where
-  pub found_at : r < n → least f (plan_count t) ≡ Some r
-  found_at l = rw (← whole) (lowest_at f n r lowest l)
-
-  pub found_none : n ≤ r → least f (plan_count t) ≡ None
-  found_none l = rw (← whole) (lowest_none f n r lowest l)
+pub found_is :
+    (t : List ℕ) (n : ℕ) → n ≡ plan_count t → (f : ℕ → Bool) (r : Option ℕ) → Lowest f n r → least f (plan_count t) ≡ r
+found_is t n whole f r lowest = rw (← whole) (lowest_is f n r lowest)
 
 -- a header that is refused is the table's refusal
 pub header_refused : (t : List ℕ) (why : Refusal) → header_check t ≡ Err why → table_check t ≡ Err why
@@ -114,9 +111,9 @@ module _
     (n : ℕ)
     (whole : n ≡ plan_count t)
     (ranks counts names : List ℕ)
-    (r : ℕ)
+    (r : Option ℕ)
     (shaped : Shaped t n ranks counts r)
-    (none : n ≤ r)
+    (none : r ≡ None)
     (collected : Collected t n (λ c. named (entry t c)) names)
   where
     count_is : (q : ℕ) → q < n → byte_at counts q ≡ length (children t q)

@@ -1,9 +1,8 @@
 -- Laws of check 6: the parent rule and the ranks together. Assumes nothing.
 use Prim.Native.Nat.{ℕ, zero, suc, ◌+◌, ◌-◌, ◌*◌, ◌≤◌, ◌<◌}
 use native.Mathlib.Omega.{arith}
-use native.Mathlib.Decide.{dec_lt}
 use mathlib.Core.Path.{◌≡◌, refl, sym, ap, ◌∙◌}
-use mathlib.Core.Bool.{true, false, not}
+use mathlib.Core.Bool.{true, false, not, or-true}
 use mathlib.Core.List.{List}
 use lib.Dec.{eqb, leb}
 use lib.ListN.{length}
@@ -16,6 +15,8 @@ use Rattle.rules.proofs.Tree.{rule_down}
 use Rattle.children.specs.Sets.{Rooted, Ranked}
 use Rattle.table.specs.Facts.{Shaped}
 use Rattle.lowest.specs.Lowest.{Lowest}
+use Rattle.std.specs.Prelude.{Option, Some, None}
+use Rattle.std.specs.Option.{unwrap_or, option_or}
 
 -- where the first m plans keep the parent rule, they have earlier parents
 pub rooted_first :
@@ -35,6 +36,15 @@ unrooted_next t (suc k) h =
     let e : suc k - 1 ≡ k = omega arith in
     rw e
 
+-- so have those before the first that breaks it
+pub rooted_to : (t : List ℕ) (n : ℕ) → n ≤ 256 → 8 + 8 * n ≤ length t → (r : Option ℕ) → Lowest (unrooted t) n r → Rooted t (unwrap_or r n)
+rooted_to t n small room None keeps = rooted_first t n small room keeps
+rooted_to t n small room (Some r) (l, breaks, keeps) = rooted_first t r (omega arith) (omega arith) keeps
+
+-- what is found is not nothing
+some_none : {r : ℕ} → Some r ≡ None → ⊥
+some_none e = grind arith
+
 -- the lowest plan a that breaks the parent rule, the ranks of the plans before it, and the lowest b of these that is a 65th child
 module _
     (t : List ℕ)
@@ -43,50 +53,56 @@ module _
     (small : n ≤ 256)
     (room : 8 + 8 * n ≤ length t)
     (ranks counts : List ℕ)
-    (a b : ℕ)
-    (first : Lowest (unrooted t) n a)
-    (ranked : Ranked t a ranks counts)
-    (second : Lowest (λ p. leb 64 (byte_at ranks p)) a b)
   where
-    rank_test : (p : ℕ) → p < a → leb 64 (rank t p) ≡ leb 64 (byte_at ranks p)
-    rank_test p l = ap (leb 64) (sym (ranked.ranked p l))
+    module _ (m : ℕ) (ranked : Ranked t m ranks counts) where
+      rank_test : (p : ℕ) → p < m → leb 64 (rank t p) ≡ leb 64 (byte_at ranks p)
+      rank_test p l = ap (leb 64) (sym (ranked.ranked p l))
 
-    good_before : (k : ℕ) → k < b → bad_parent t k ≡ false
+      good : (k : ℕ) → k < m → unrooted t k ≡ false → leb 64 (byte_at ranks k) ≡ false → bad_parent t k ≡ false
+      unfolding bad_parent
+      good k l keeps narrow = rw (keeps, rank_test k l) narrow
+
+      crowded : (k : ℕ) → k < m → leb 64 (byte_at ranks k) ≡ true → bad_parent t k ≡ true
+      unfolding bad_parent
+      crowded k l many = rw (rank_test k l, many) (or-true (unrooted t k))
+
+    breaks : (k : ℕ) → unrooted t k ≡ true → bad_parent t k ≡ true
     unfolding bad_parent
-    good_before k l =
-        let h = second.within in
-        rw (first.before k (omega arith), rank_test k (omega arith)) (second.before k l)
+    breaks k h = rw h refl
 
-    bad_at : b < n → Dec (b < a) → bad_parent t b ≡ true
-    unfolding bad_parent
-    bad_at l (yes h) = rw (first.before b h, rank_test b h) (second.found h)
-    bad_at l (no h) =
-        let w = second.within in
-        let e : b ≡ a = omega arith in
-        rw e (rw (first.found (omega arith)) refl)
-
-    whole : n ≤ b → a ≡ n
-    whole h = omega (arith, first.within, second.within)
-
-    pub shaped : Shaped t n ranks counts b
-    shaped =
+    pub shaped :
+        (a b : Option ℕ) → Lowest (unrooted t) n a → Ranked t (unwrap_or a n) ranks counts
+        → Lowest (λ p. leb 64 (byte_at ranks p)) (unwrap_or a n) b → Shaped t n ranks counts (option_or b a)
+    shaped None None keeps ranked narrow =
         record {
-          lowest =
-              record {
-                within = omega (arith, first.within, second.within);
-                before = good_before;
-                found = λ l. bad_at l (dec_lt b a);
-              };
-          rooted = λ h. rooted_first t n small room (λ k l. first.before k (omega (arith, whole h)));
-          ranked = λ h. rw (whole h) at ranked;
-          narrow =
-              λ h.
+          lowest = λ k l. good n ranked k l (keeps k l) (narrow k l);
+          rooted = λ e. rooted_first t n small room keeps;
+          ranked = λ e. ranked;
+          narrow = λ e.
               record {
                 some = some;
-                ranked = λ p l. ranked.ranked p (omega (arith, whole h));
-                narrow =
-                    λ p l.
-                    let e = whole h in
-                    leb-false 64 (rank t p) (rank_test p (omega arith) ∙ second.before p (omega arith));
+                ranked = ranked.ranked;
+                narrow = λ p l. leb-false 64 (rank t p) (rank_test n ranked p l ∙ narrow p l);
               };
+        }
+    shaped None (Some b) keeps ranked (l, many, before) =
+        record {
+          lowest = (l, crowded n ranked b l many, λ k m. good n ranked k (omega (arith, l)) (keeps k (omega (arith, l))) (before k m));
+          rooted = λ e. absurd (some_none e);
+          ranked = λ e. absurd (some_none e);
+          narrow = λ e. absurd (some_none e);
+        }
+    shaped (Some a) None (l, bad, before) ranked narrow =
+        record {
+          lowest = (l, breaks a bad, λ k m. good a ranked k m (before k m) (narrow k m));
+          rooted = λ e. absurd (some_none e);
+          ranked = λ e. absurd (some_none e);
+          narrow = λ e. absurd (some_none e);
+        }
+    shaped (Some a) (Some b) (l, bad, before) ranked (l', many, before') =
+        record {
+          lowest = (omega (arith, l, l'), crowded a ranked b l' many, λ k m. good a ranked k (omega (arith, l')) (before k (omega (arith, l'))) (before' k m));
+          rooted = λ e. absurd (some_none e);
+          ranked = λ e. absurd (some_none e);
+          narrow = λ e. absurd (some_none e);
         }

@@ -12,9 +12,7 @@ use Rattle.rules.specs.Answers.{is_done, table_check, Done}
 use Rattle.rules.specs.SubTree.{last_descendant, sub_tree}
 use Rattle.rules.specs.declared.Refusal.{Refusal}
 use Rattle.rules.proofs.Tree.{passes, tree, rule_at}
-use Rattle.lowest.specs.Lowest.{Lowest}
-use Rattle.table.specs.Facts.{outside}
-use Rattle.table.proofs.Descendants.{last_is}
+use Rattle.table.proofs.Descendants.{Ends, last_is}
 use Rattle.std.specs.Prelude.{Err}
 
 module _ (t s : List ℕ) (plan : ℕ) where
@@ -36,11 +34,12 @@ module _ (t s : List ℕ) (plan : ℕ) where
     none_of_plan l = simp (done, le-ltb _ _ l, and-false)
 
     pub part_of :
-        length s ≡ plan_count t → plan < plan_count t → (e : ℕ) → plan < e → Lowest (outside t plan) (plan_count t) e
+        length s ≡ plan_count t → plan < plan_count t → (e : ℕ) → Ends t (plan_count t) plan e
         → sub_tree t s plan ≡ take (e - plan) (drop plan s)
     unfolding sub_tree
-    part_of long l e h lowest =
+    part_of long l e ends =
         let passed = passes t done in
-        let last = last_is t (plan_count t) (tree t passed).down (rule_at t passed.parents) plan e h lowest refl in
+        let last = last_is t (plan_count t) (tree t passed).down (rule_at t passed.parents) plan e ends refl in
+        let h = ends.here in
         let size : suc (last_descendant t plan) - plan ≡ e - plan = omega arith in
         simp (done, eq-eqb _ _ long, lt-ltb _ _ l) (ap (λ (k : ℕ). take k (drop plan s)) size)

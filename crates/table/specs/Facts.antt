@@ -1,41 +1,26 @@
 -- What check 6 finds, the rules of checks 7, 8 and 9 one by one, and what is known of a table that passes. Assumes nothing.
-use Rattle.std.specs.Prelude.{ℕ, ◌+◌, ◌*◌, ◌≤◌, ◌<◌, ◌≡◌, Bool, cond, not, ◌&&◌, List, length, get_or, leb, ltb}
-use Rattle.std.specs.Int.Count.{ones}
+use Rattle.std.specs.Prelude.{ℕ, ◌+◌, ◌*◌, ◌≤◌, ◌<◌, ◌≡◌, Bool, cond, ◌&&◌, List, length, get_or, ltb, Option, None}
 use Rattle.rules.specs.Bytes.{byte_at}
 use Rattle.rules.specs.Lists.{least}
 use Rattle.rules.specs.Table.{plan_count, parent, entry, named, children, rank}
 use Rattle.rules.specs.WaitFor.{first_version, table_size}
-use Rattle.rules.specs.Answers.{◌and_then◌, refuse_at, bad_parent, undefined_entry, unfit_entry, undefined_byte, unfit, too_many, formulas_check, bad_wait, header_check, table_check, Outcome, Done}
+use Rattle.rules.specs.Answers.{◌and_then◌, refuse_at, bad_parent, formulas_check, bad_wait, header_check, table_check, Outcome, Done}
 use Rattle.children.specs.Sets.{set_of, Rooted, Ranked, Narrow}
 use Rattle.formulas.specs.Asked.{number_asked}
 use Rattle.lowest.specs.Lowest.{Lowest}
-use Rattle.rules.specs.declared.PlanEntry.{PlanEntry}
 use Rattle.rules.specs.declared.Refusal.{Refusal}
-use Rattle.table.specs.declared.Rule.{Rule}
-use Rattle.table.specs.declared.Rule.TheVariants.{Undefined, Unfit, Wait}
 
 -- a table has room for n plans, 1 to 256
 abbrev pub HasPlans : List ℕ → ℕ → Type 0
 HasPlans t n = (0 < n) × (n ≤ 256) × (8 + 8 * n ≤ length t)
 
--- check 6 finds r: the lowest bad plan, or n, and then the first n plans have earlier parents, known ranks below 64, and known numbers of
+-- check 6 finds r: the lowest bad plan, or none, and then the first n plans have earlier parents, known ranks below 64, and known numbers of
 -- children
-pub record Shaped (t : List ℕ) (n : ℕ) (ranks counts : List ℕ) (r : ℕ) : Type 0 where
+pub record Shaped (t : List ℕ) (n : ℕ) (ranks counts : List ℕ) (r : Option ℕ) : Type 0 where
   pub lowest : Lowest (bad_parent t) n r
-  pub rooted : n ≤ r → Rooted t n
-  pub ranked : n ≤ r → Ranked t n ranks counts
-  pub narrow : n ≤ r → Narrow t n ranks
-
--- the rule of check 7, 8 or, in version 1, 9 is broken: by plan p with so many children, these names and this entry; by plan p of a table
-abbrev pub breaks_entry : Rule → ℕ → ℕ → ℕ → PlanEntry → Bool
-breaks_entry Undefined p child_count names e = undefined_entry e
-breaks_entry Unfit p child_count names e = unfit_entry p child_count e
-breaks_entry Wait p child_count names e = not (leb e.wait (ones names))
-
-abbrev pub breaking : Rule → List ℕ → ℕ → Bool
-breaking Undefined t p = undefined_byte t p
-breaking Unfit t p = unfit t p
-breaking Wait t p = too_many t p (entry t p).wait
+  pub rooted : r ≡ None → Rooted t n
+  pub ranked : r ≡ None → Ranked t n ranks counts
+  pub narrow : r ≡ None → Narrow t n ranks
 
 -- what follows check 8: 22, and 9
 abbrev pub waits_check : List ℕ → Outcome

@@ -3,17 +3,17 @@
 // O(n) over a whole table. Assumes nothing.
 #![tactic(auto)]
 
-ghost use Rattle.std.specs.Prelude.{◌≡◌, [], ◌∷◌, map, ◌+◌, ◌*◌, ◌<◌, ◌≤◌, leb, length, take};
+ghost use Rattle.std.specs.Prelude.{◌≡◌, [], ◌∷◌, map, ◌+◌, ◌*◌, ◌<◌, ◌≤◌, ◌||◌, eqb, leb, length, take};
 ghost use Rattle.rules.specs.Lists.{some, same};
 ghost use Rattle.rules.specs.Bytes.{byte_at};
-ghost use Rattle.rules.specs.Table.{plan_count, bit_of, conditions, is_or_is_above};
+ghost use Rattle.rules.specs.Table.{plan_count, entry, bit_of, conditions, is_or_is_above};
 ghost use Rattle.rules.specs.WaitFor.{table_size};
-ghost use Rattle.rules.specs.Answers.{undefined_entry, stray_at, unfit_entry, unrooted, header_check, plans_check, table_check, table_verdict};
+ghost use Rattle.rules.specs.Answers.{Done, undefined_entry, undefined_byte, stray_at, unfit_entry, unfit, too_many, unrooted, header_check, plans_check, table_check, table_verdict};
 ghost use Rattle.rules.specs.SubTree.{sub_tree};
 ghost use Rattle.children.specs.Sets.{Rooted};
 ghost use Rattle.lowest.specs.Lowest.{Lowest};
 ghost use Rattle.formulas.specs.Asked.{Numbered};
-ghost use Rattle.table.specs.Facts.{HasPlans, waits_check, Shaped, breaks_entry, breaking, Known, FactsRoom, Checked, outside};
+ghost use Rattle.table.specs.Facts.{HasPlans, waits_check, Shaped, Known, FactsRoom, Checked, outside};
 
 use children::{collect_named, rank_children};
 use formulas::find_numbers;
@@ -40,7 +40,7 @@ pub fn header_check(table: &[u8]) -> Result<(), Refusal>
         return Err(Refusal::TableMark);
     }
     let version = u16_at(table, 3);
-    if !((version == 1) | (version == 2)) {
+    if !is_version(version) {
         return Err(Refusal::TableVersion);
     }
     let n = u16_at(table, 5);
@@ -48,6 +48,13 @@ pub fn header_check(table: &[u8]) -> Result<(), Refusal>
         return Err(Refusal::TableCount);
     }
     Ok(())
+}
+
+// Whether tables of this version are read.
+fn is_version(version: u16) -> bool
+    ensures { result ≡ (eqb version 1 || eqb version 2) }
+{
+    matches!(version, 1 | 2)
 }
 
 // Where a table whose header passes ends: behind its plans or, in version 2, its nodes. Bytes that are missing count as 0.
@@ -59,27 +66,22 @@ pub fn table_size(table: &[u8]) -> usize
     if is_first_version(table) {
         return plans;
     }
-    plans + 2 + 4 * (u16_within(table, plans) as usize)
-}
-
-// The rules of checks 7 and 8, and of check 9 in version 1.
-#[derive(Clone, Copy)]
-pub enum Rule {
-    Undefined,
-    Unfit,
-    Wait,
+    plans + 2 + 4 * usize::from(u16_within(table, plans))
 }
 
 // Checks 1 to 9 and 22. Of a good table the buffers then hold the plans' ranks, numbers of children, named children, and, behind these,
 // how many of them each plan waits for.
-pub fn read_table(table: &[u8], ranks: &mut [u8], counts: &mut [u8], names: &mut [u64]) -> Result<(), Refusal>
+pub fn read_table(
+    table: &[u8],
+    ranks: &mut [u8],
+    counts: &mut [u8],
+    names: &mut [u64],
+) -> Result<(), Refusal>
     requires { FactsRoom table.now ranks.old counts.old names.old }
     ensures { Checked table.now ranks.new counts.new names.new result }
 {
-    match header_check(table) {
-        Err(why) => Err(why),
-        Ok(()) => body_check(table, ranks, counts, names),
-    }
+    header_check(table)?;
+    body_check(table, ranks, counts, names)
 }
 
 // What document 01 says of a table: accepted with its number of plans, or refused.
@@ -89,10 +91,8 @@ pub fn check_table(table: &[u8]) -> Result<u16, Refusal>
     let mut ranks = [0u8; 256];
     let mut counts = [0u8; 256];
     let mut names = [0u64; 512];
-    match read_table(table, &mut ranks, &mut counts, &mut names) {
-        Err(why) => Err(why),
-        Ok(()) => Ok(u16_at(table, 5)),
-    }
+    read_table(table, &mut ranks, &mut counts, &mut names)?;
+    Ok(u16_at(table, 5))
 }
 
 // The sub tree question: the caller's own states from the plan through its last descendant, or none of them.
@@ -101,7 +101,7 @@ pub fn sub_tree<'a>(table: &[u8], states: &'a [u8], plan: usize) -> &'a [u8]
 {
     match check_table(table) {
         Err(_) => &states[0..0],
-        Ok(n) => part(table, n as usize, states, plan),
+        Ok(n) => part(table, usize::from(n), states, plan),
     }
 }
 
@@ -117,49 +117,41 @@ fn climbs_to(table: &[u8], a: usize, from: usize) -> bool
     p == a
 }
 
-// The lowest plan that breaks the parent rule, or n.
-fn lowest_unrooted(table: &[u8], n: usize) -> usize
+// The lowest plan that breaks the parent rule. No `find`: one may climb from a plan only where those before it keep the rule.
+fn lowest_unrooted(table: &[u8], n: usize) -> Option<usize>
     requires { HasPlans table.now n }
     ensures { Lowest (unrooted table.now) n result }
 {
     if parent_at(table, 0) != 65535 {
-        return 0;
+        return Some(0);
     }
-    let mut p = 1;
-    while p < n {
+    for p in 1..n {
         if !climbs_to(table, parent_at(table, p), p - 1) {
-            return p;
+            return Some(p);
         }
-        p += 1;
     }
-    p
+    None
 }
 
-// The lowest plan whose rank would be a 65th child's, or n.
-fn lowest_crowded(ranks: &[u8], n: usize) -> usize
+// The lowest plan whose rank would be a 65th child's.
+fn lowest_crowded(ranks: &[u8], n: usize) -> Option<usize>
     requires { n ≤ length ranks.now }
     ensures { Lowest (λ p. leb 64 (byte_at ranks.now p)) n result }
 {
-    let mut p = 0;
-    while p < n {
-        if 64 <= ranks[p] {
-            return p;
-        }
-        p += 1;
-    }
-    p
+    (0..n).find(|&p| 64 <= ranks[p])
 }
 
-// Check 6: the lowest plan that breaks the parent rule or is a 65th child, or n. Where it is n, the ranks and the numbers of children
+// Check 6: the lowest plan that breaks the parent rule or is a 65th child. Where there is none, the ranks and the numbers of children
 // are found.
-fn lowest_bad_parent(table: &[u8], n: usize, ranks: &mut [u8], counts: &mut [u8]) -> usize
+fn lowest_bad_parent(table: &[u8], n: usize, ranks: &mut [u8], counts: &mut [u8]) -> Option<usize>
     requires table { HasPlans table.now n }
     requires room { (n ≤ length ranks.old) × (n ≤ length counts.old) }
     ensures { Shaped table.now n ranks.new counts.new result }
 {
-    let rooted = lowest_unrooted(table, n);
+    let unrooted = lowest_unrooted(table, n);
+    let rooted = unrooted.unwrap_or(n);
     rank_children(table, rooted, ranks, counts);
-    lowest_crowded(ranks, rooted)
+    lowest_crowded(ranks, rooted).or(unrooted)
 }
 
 // Check 7 of an entry.
@@ -181,7 +173,7 @@ fn unfit_entry(p: usize, count: u8, e: PlanEntry) -> bool
     ensures { result ≡ unfit_entry p count e }
 {
     let kind = e.body_kind();
-    let leaf = (kind == Body::Leaf);
+    let leaf = kind == Body::Leaf;
     let childless = count == 0;
     let body = (leaf & !childless) | (!leaf & childless);
     let root = (p == 0) & e.is_named();
@@ -194,30 +186,52 @@ fn unfit_entry(p: usize, count: u8, e: PlanEntry) -> bool
     unfit
 }
 
-// Whether plan p breaks a rule, by its entry, its number of children and its named children.
-fn breaks(rule: Rule, p: usize, e: PlanEntry, count: u8, names: u64) -> bool
-    ensures { result ≡ breaks_entry rule p count names e }
+// The lowest plan that check 7 refuses.
+fn lowest_undefined(table: &[u8], n: usize, counts: &[u8], names: &[u64]) -> Option<usize>
+    requires { Known table.now n counts.now names.now }
+    ensures { Lowest (undefined_byte table.now) n result }
 {
-    match rule {
-        Rule::Undefined => undefined_entry(e),
-        Rule::Unfit => unfit_entry(p, count, e),
-        Rule::Wait => !e.wait_for(names),
-    }
+    (0..n).find(|&p| is_undefined(table, n, counts, names, p))
 }
 
-// The lowest plan that breaks a rule, or n.
-fn lowest_breaking(rule: Rule, table: &[u8], n: usize, counts: &[u8], names: &[u64]) -> usize
-    requires { Known table.now n counts.now names.now }
-    ensures { Lowest (breaking rule table.now) n result }
+// Whether it refuses plan p.
+fn is_undefined(table: &[u8], n: usize, counts: &[u8], names: &[u64], p: usize) -> bool
+    requires { Known table.now n counts.now names.now × (p < n) }
+    ensures { result ≡ undefined_byte table.now p }
 {
-    let mut p = 0;
-    while p < n {
-        if breaks(rule, p, entry_at(table, p), counts[p], names[p]) {
-            return p;
-        }
-        p += 1;
-    }
-    p
+    undefined_entry(entry_at(table, p))
+}
+
+// The lowest plan that check 8 refuses.
+fn lowest_unfit(table: &[u8], n: usize, counts: &[u8], names: &[u64]) -> Option<usize>
+    requires { Known table.now n counts.now names.now }
+    ensures { Lowest (unfit table.now) n result }
+{
+    (0..n).find(|&p| is_unfit(table, n, counts, names, p))
+}
+
+// Whether it refuses plan p.
+fn is_unfit(table: &[u8], n: usize, counts: &[u8], names: &[u64], p: usize) -> bool
+    requires { Known table.now n counts.now names.now × (p < n) }
+    ensures { result ≡ unfit table.now p }
+{
+    unfit_entry(p, counts[p], entry_at(table, p))
+}
+
+// The lowest plan whose wait number is above its number of named children.
+fn lowest_asking(table: &[u8], n: usize, counts: &[u8], names: &[u64]) -> Option<usize>
+    requires { Known table.now n counts.now names.now }
+    ensures { Lowest (λ p. too_many table.now p (entry table.now p).wait) n result }
+{
+    (0..n).find(|&p| asks_too_many(table, n, counts, names, p))
+}
+
+// Whether that of plan p is.
+fn asks_too_many(table: &[u8], n: usize, counts: &[u8], names: &[u64], p: usize) -> bool
+    requires { Known table.now n counts.now names.now × (p < n) }
+    ensures { result ≡ too_many table.now p (entry table.now p).wait }
+{
+    !entry_at(table, p).wait_for(names[p])
 }
 
 // Checks 7, 8, 22 and 9.
@@ -225,15 +239,11 @@ fn plans_check(table: &[u8], n: usize, counts: &[u8], names: &[u64]) -> Result<(
     requires { Known table.now n counts.now names.now }
     ensures { result ≡ plans_check table.now }
 {
-    let undefined = lowest_breaking(Rule::Undefined, table, n, counts, names);
-    if undefined < n {
-        return Err(Refusal::Undefined {
-            plan: undefined as u16,
-        });
+    if let Some(plan) = lowest_undefined(table, n, counts, names) {
+        return Err(Refusal::Undefined { plan: plan as u16 });
     }
-    let unfit = lowest_breaking(Rule::Unfit, table, n, counts, names);
-    if unfit < n {
-        return Err(Refusal::Unfit { plan: unfit as u16 });
+    if let Some(plan) = lowest_unfit(table, n, counts, names) {
+        return Err(Refusal::Unfit { plan: plan as u16 });
     }
     waits_check(table, n, counts, names)
 }
@@ -246,9 +256,8 @@ fn waits_check(table: &[u8], n: usize, counts: &[u8], names: &[u64]) -> Result<(
     if !is_first_version(table) {
         return check_formulas(table, n, counts, names);
     }
-    let wait = lowest_breaking(Rule::Wait, table, n, counts, names);
-    if wait < n {
-        return Err(Refusal::Wait { plan: wait as u16 });
+    if let Some(plan) = lowest_asking(table, n, counts, names) {
+        return Err(Refusal::Wait { plan: plan as u16 });
     }
     Ok(())
 }
@@ -260,17 +269,18 @@ fn check_and_number(table: &[u8], n: usize, counts: &[u8], names: &mut [u64]) ->
     ensures is { result ≡ plans_check table.now }
     ensures numbered { result ≡ Done → Numbered table.now n n names.old names.new }
 {
-    match plans_check(table, n, counts, names) {
-        Err(why) => Err(why),
-        Ok(()) => {
-            find_numbers(table, n, names);
-            Ok(())
-        }
-    }
+    plans_check(table, n, counts, names)?;
+    find_numbers(table, n, names);
+    Ok(())
 }
 
 // The checks from 5 on, of a table whose header passes.
-fn body_check(table: &[u8], ranks: &mut [u8], counts: &mut [u8], names: &mut [u64]) -> Result<(), Refusal>
+fn body_check(
+    table: &[u8],
+    ranks: &mut [u8],
+    counts: &mut [u8],
+    names: &mut [u64],
+) -> Result<(), Refusal>
     requires header { header_check table.now ≡ Done }
     requires room { FactsRoom table.now ranks.old counts.old names.old }
     ensures { Checked table.now ranks.new counts.new names.new result }
@@ -279,29 +289,19 @@ fn body_check(table: &[u8], ranks: &mut [u8], counts: &mut [u8], names: &mut [u6
     if table.len() != table_size(table) {
         return Err(Refusal::TableLength);
     }
-    let parent = lowest_bad_parent(table, n, ranks, counts);
-    if parent < n {
-        return Err(Refusal::Parent {
-            plan: parent as u16,
-        });
+    if let Some(plan) = lowest_bad_parent(table, n, ranks, counts) {
+        return Err(Refusal::Parent { plan: plan as u16 });
     }
     collect_named(table, n, ranks, names);
     check_and_number(table, n, counts, names)
 }
 
-// The first plan after the sub tree of `plan`: the lowest one behind it whose parent stands before it, or n.
-fn end_of(table: &[u8], n: usize, plan: usize) -> usize
+// The first plan after the sub tree of `plan`, if there is one: the lowest one behind it whose parent stands before it.
+fn first_after(table: &[u8], n: usize, plan: usize) -> Option<usize>
     requires { (plan < n) × (n ≤ 256) × (8 + 8 * n ≤ length table.now) }
-    ensures { (plan < result) × Lowest (outside table.now plan) n result }
+    ensures { Lowest (outside table.now plan) n result }
 {
-    let mut i = plan + 1;
-    while i < n {
-        if parent_at(table, i) < plan {
-            return i;
-        }
-        i += 1;
-    }
-    i
+    (plan + 1..n).find(|&i| parent_at(table, i) < plan)
 }
 
 // The part of the states that is a sub tree, of a table that passes.
@@ -315,6 +315,6 @@ fn part<'a>(table: &[u8], n: usize, states: &'a [u8], plan: usize) -> &'a [u8]
     if n <= plan {
         return &states[0..0];
     }
-    let e = end_of(table, n, plan);
+    let e = first_after(table, n, plan).unwrap_or(n);
     &states[plan..e]
 }

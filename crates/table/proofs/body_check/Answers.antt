@@ -6,8 +6,7 @@ use Rattle.rules.specs.WaitFor.{table_size}
 use Rattle.rules.proofs.Tree.{header}
 use Rattle.formulas.proofs.Formed.{plans_within}
 use Rattle.table.proofs.Reading.{
-  found_at,
-  found_none,
+  found_is,
   stops_at_length,
   stops_at_parent,
   going_on,
@@ -27,22 +26,22 @@ returns-then-table-table_size c =
     (ne_eqb _ _ (λ e. c.if-table-table_size.true (e ∙ sym c.table_size.ensures))))
 
 -- the number of plans is the header's, and in its range; the table ends where it should
-pub lowest_bad_parent-parent-requires-clause-table : goal.lowest_bad_parent-parent-requires-clause-table
-lowest_bad_parent-parent-requires-clause-table c =
+pub lowest_bad_parent-requires-clause-table : goal.lowest_bad_parent-requires-clause-table
+lowest_bad_parent-requires-clause-table c =
     let t = c.args.table.now in
     let h = header _ c.requires.header in
     let long = c.if-table-table_size.false ∙ c.table_size.ensures in
     let whole = c.plan_count-n.ensures in
     (omega (arith, h.some, whole), omega (arith, h.small, whole), omega (arith, plans_within t long, whole))
 
-pub returns-then-parent-n : goal.returns-then-parent-n
-returns-then-parent-n c =
+pub returns-in-Some : goal.returns-in-Some
+returns-in-Some c =
     let t = c.args.table.now in
     let long : length t ≡ table_size t = c.if-table-table_size.false ∙ c.table_size.ensures in
     let ends : eqb (length t) (table_size t) ≡ true = eq-eqb _ _ long in
     refused_checked _ _ _ _ _
     (stops_at_parent t c.requires.header ends _
-    (found_at t _ c.plan_count-n.ensures _ _ c.lowest_bad_parent-parent.ensures.lowest c.if-parent-n.true))
+    (found_is t _ c.plan_count-n.ensures _ _ c.lowest_bad_parent.ensures.lowest ∙ c.in-Some.is))
 
 pub check_and_number-requires-clause-known : goal.check_and_number-requires-clause-known
 check_and_number-requires-clause-known c =
@@ -50,7 +49,7 @@ check_and_number-requires-clause-known c =
     let long : length t ≡ table_size t = c.if-table-table_size.false ∙ c.table_size.ensures in
     let whole = c.plan_count-n.ensures in
     let room = c.requires.room in
-    known _ _ whole _ _ _ _ c.lowest_bad_parent-parent.ensures c.if-parent-n.false c.collect_named.ensures.found long
+    known _ _ whole _ _ _ _ c.lowest_bad_parent.ensures c.in_default.is c.collect_named.ensures.found long
     (omega (arith, room.counts_room c.requires.header))
     (omega (arith, room.names_room c.requires.header))
 
@@ -60,11 +59,11 @@ returns c =
     let long : length t ≡ table_size t = c.if-table-table_size.false ∙ c.table_size.ensures in
     let ends : eqb (length t) (table_size t) ≡ true = eq-eqb _ _ long in
     let whole = c.plan_count-n.ensures in
-    let shaped = c.lowest_bad_parent-parent.ensures in
-    let none = c.if-parent-n.false in
+    let shaped = c.lowest_bad_parent.ensures in
+    let none = c.in_default.is in
     record {
       is =
           c.check_and_number.ensures.is
-          ∙ sym (going_on t c.requires.header ends (found_none t _ whole _ _ shaped.lowest none));
+          ∙ sym (going_on t c.requires.header ends (found_is t _ whole _ _ shaped.lowest ∙ none));
       facts = λ d. facts t _ whole _ _ _ _ shaped none c.collect_named.ensures.found _ (c.check_and_number.ensures.numbered d);
     }

@@ -29,13 +29,13 @@ returns-then-not-has_mark c =
     (pass _ _ _ (le-ltb _ _ c.if-table-lt8.false)
     ∙ stop _ _ _ (ap not (sym c.has_mark.ensures ∙ c.if-not-has_mark.true)))
 
-pub returns-then-not-version : goal.returns-then-not-version
+pub returns-then-not-is_version : goal.returns-then-not-is_version
 unfolding header_check
-returns-then-not-version c =
+returns-then-not-is_version c =
     sym
     (pass _ _ _ (le-ltb _ _ c.if-table-lt8.false)
     ∙ pass _ _ _ (ap not (sym c.has_mark.ensures ∙ c.if-not-has_mark.false))
-    ∙ stop _ _ _ (ap wrongVersion (sym c.u16_at-version.ensures) ∙ ap not c.if-not-version.true))
+    ∙ stop _ _ _ (ap wrongVersion (sym c.u16_at-version.ensures) ∙ ap not (sym c.is_version.ensures ∙ c.if-not-is_version.true)))
 
 pub returns-then-n-table : goal.returns-then-n-table
 unfolding header_check
@@ -43,7 +43,7 @@ returns-then-n-table c =
     sym
     (pass _ _ _ (le-ltb _ _ c.if-table-lt8.false)
     ∙ pass _ _ _ (ap not (sym c.has_mark.ensures ∙ c.if-not-has_mark.false))
-    ∙ pass _ _ _ (ap wrongVersion (sym c.u16_at-version.ensures) ∙ ap not c.if-not-version.false)
+    ∙ pass _ _ _ (ap wrongVersion (sym c.u16_at-version.ensures) ∙ ap not (sym c.is_version.ensures ∙ c.if-not-is_version.false))
     ∙ ap (λ (n : ℕ). refuse_if (wrong c.args.table.now n) TableCount) (sym c.u16_at-n.ensures)
     ∙ stop_last _ _ c.if-n-table.true)
 
@@ -53,6 +53,6 @@ returns c =
     sym
     (pass _ _ _ (le-ltb _ _ c.if-table-lt8.false)
     ∙ pass _ _ _ (ap not (sym c.has_mark.ensures ∙ c.if-not-has_mark.false))
-    ∙ pass _ _ _ (ap wrongVersion (sym c.u16_at-version.ensures) ∙ ap not c.if-not-version.false)
+    ∙ pass _ _ _ (ap wrongVersion (sym c.u16_at-version.ensures) ∙ ap not (sym c.is_version.ensures ∙ c.if-not-is_version.false))
     ∙ ap (λ (n : ℕ). refuse_if (wrong c.args.table.now n) TableCount) (sym c.u16_at-n.ensures)
     ∙ pass_last _ _ c.if-n-table.false)

@@ -1,23 +1,23 @@
 -- `plans_check` meets its contract: each search finds the lowest plan that breaks its rule; then 22 and 9. Assumes nothing.
 use Rattle.std.proofs.Common.{sym, ◌∙◌}
-use Rattle.table.proofs.Reading.{found_at, found_none, plans_undefined, plans_unfit, plans_waits}
+use Rattle.table.proofs.Reading.{found_is, plans_undefined, plans_unfit, plans_waits}
 use Rattle.table.proofs.plans_check.Goals as goal
 
-pub returns-then-undefined-n : goal.returns-then-undefined-n
-returns-then-undefined-n c =
+pub returns-in-Some : goal.returns-in-Some
+returns-in-Some c =
     let t = c.args.table.now in
-    sym (plans_undefined t _ (found_at t _ c.requires.whole _ _ c.lowest_breaking-undefined.ensures c.if-undefined-n.true))
+    sym (plans_undefined t _ (found_is t _ c.requires.whole _ _ c.lowest_undefined.ensures ∙ c.in-Some.is))
 
 -- check 7 has found nothing, and then check 8
-pub returns-then-unfit-n : goal.returns-then-unfit-n
-returns-then-unfit-n c =
+pub returns-in-Some-lowest_unfit : goal.returns-in-Some-lowest_unfit
+returns-in-Some-lowest_unfit c =
     let t = c.args.table.now in
-    let defined = found_none t _ c.requires.whole _ _ c.lowest_breaking-undefined.ensures c.if-undefined-n.false in
-    sym (plans_unfit t defined _ (found_at t _ c.requires.whole _ _ c.lowest_breaking-unfit.ensures c.if-unfit-n.true))
+    let defined = found_is t _ c.requires.whole _ _ c.lowest_undefined.ensures ∙ c.in_default.is in
+    sym (plans_unfit t defined _ (found_is t _ c.requires.whole _ _ c.lowest_unfit.ensures ∙ c.in-Some-lowest_unfit.is))
 
 pub returns : goal.returns
 returns c =
     let t = c.args.table.now in
-    let defined = found_none t _ c.requires.whole _ _ c.lowest_breaking-undefined.ensures c.if-undefined-n.false in
-    let fit = found_none t _ c.requires.whole _ _ c.lowest_breaking-unfit.ensures c.if-unfit-n.false in
+    let defined = found_is t _ c.requires.whole _ _ c.lowest_undefined.ensures ∙ c.in_default.is in
+    let fit = found_is t _ c.requires.whole _ _ c.lowest_unfit.ensures ∙ c.in_default-lowest_unfit.is in
     c.waits_check.ensures ∙ sym (plans_waits _ defined fit)

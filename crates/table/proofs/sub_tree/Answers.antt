@@ -5,7 +5,9 @@ use Rattle.table.proofs.SubTrees.{none_of_refused}
 use Rattle.table.proofs.sub_tree.Goals as goal
 
 pub part-requires : goal.part-requires
-part-requires c = was_done _ _ (sym c.check_table.ensures ∙ c.in-Accepted.is)
+part-requires c =
+    let done = was_done _ _ (sym c.check_table.ensures ∙ c.in-Ok.is) in
+    (done.0, c.from.ensures ∙ done.1)
 
-pub returns-in-Refused : goal.returns-in-Refused
-returns-in-Refused c = sym (none_of_refused _ _ _ _ (was_refused _ _ (sym c.check_table.ensures ∙ c.in-Refused.is)))
+pub returns-in-Err : goal.returns-in-Err
+returns-in-Err c = sym (none_of_refused _ _ _ _ (was_refused _ _ (sym c.check_table.ensures ∙ c.in-Err.is)))

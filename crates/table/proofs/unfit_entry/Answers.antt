@@ -8,6 +8,7 @@ use Rattle.rules.specs.Table.{body_of, is_body, of_two, named, bit_of, condition
 use Rattle.rules.specs.Answers.{stray_at, unfit_entry}
 use Rattle.rules.specs.declared.Body.TheVariants.{Leaf}
 use Rattle.rules.specs.declared.PlanEntry.{PlanEntry}
+use Rattle.rules.proofs.Derived.{same_body}
 use Rattle.table.proofs.unfit_entry.Goals as goal
 
 -- that two tests differ, said twice over
@@ -52,7 +53,7 @@ returns-then-is_of_two c =
       c.waits_for_optional.ensures,
       c.retries_aborted.ensures,
       c.is_named.ensures,
-      c.is-leaf.ensures,
+      c.eq-leaf.ensures ∙ same_body c.body_kind-kind.result Leaf,
       c.body_kind-kind.ensures,
     )
     (of_two_lem c.args.p c.args.count c.args.e two)
@@ -65,7 +66,7 @@ returns c =
       c.waits_for_optional.ensures,
       c.retries_aborted.ensures,
       c.is_named.ensures,
-      c.is-leaf.ensures,
+      c.eq-leaf.ensures ∙ same_body c.body_kind-kind.result Leaf,
       c.body_kind-kind.ensures,
     )
     (other c.args.p c.args.count c.args.e single)

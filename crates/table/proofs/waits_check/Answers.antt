@@ -2,20 +2,20 @@
 use Rattle.std.proofs.Common.{◌≡◌, true, sym, ◌∙◌}
 use Rattle.rules.specs.WaitFor.{first_version}
 use Rattle.lowest.proofs.Lowest.{lowest_as}
-use Rattle.table.proofs.Reading.{found_at, found_none, waits_by_number, waits_wait, waits_done}
+use Rattle.table.proofs.Reading.{found_is, waits_by_number, waits_wait, waits_done}
 use Rattle.table.proofs.waits_check.Goals as goal
 
 -- version 1: what the search for a wait number found
-pub returns-then-wait-n : goal.returns-then-wait-n
-returns-then-wait-n c =
+pub returns-in-Some : goal.returns-in-Some
+returns-in-Some c =
     let t = c.args.table.now in
     let first : first_version t ≡ true = sym c.is_first_version.ensures ∙ c.if-not-is_first_version.false in
-    let found = lowest_as _ _ _ _ (waits_by_number t first) c.lowest_breaking-wait.ensures in
-    sym (waits_wait t first _ (found_at t _ c.requires.whole _ _ found c.if-wait-n.true))
+    let found = lowest_as _ _ _ _ (waits_by_number t first) c.lowest_asking.ensures in
+    sym (waits_wait t first _ (found_is t _ c.requires.whole _ _ found ∙ c.in-Some.is))
 
 pub returns : goal.returns
 returns c =
     let t = c.args.table.now in
     let first : first_version t ≡ true = sym c.is_first_version.ensures ∙ c.if-not-is_first_version.false in
-    let found = lowest_as _ _ _ _ (waits_by_number t first) c.lowest_breaking-wait.ensures in
-    sym (waits_done t first (found_none t _ c.requires.whole _ _ found c.if-wait-n.false))
+    let found = lowest_as _ _ _ _ (waits_by_number t first) c.lowest_asking.ensures in
+    sym (waits_done t first (found_is t _ c.requires.whole _ _ found ∙ c.in_default.is))
