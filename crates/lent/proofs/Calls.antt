@@ -1,12 +1,13 @@
 -- Laws of checks 10 to 12, and of what a call that passes lets do. Assumes nothing.
 use Prim.Native.Nat.{ℕ, ◌+◌, ◌*◌, ◌≤◌, ◌<◌}
 use native.Mathlib.Omega.{arith}
-use mathlib.Core.Path.{◌≡◌, sym, ◌∙◌}
+use mathlib.Core.Path.{◌≡◌, sym, ap, ◌∙◌}
 use mathlib.Core.Bool.{Bool, true, false, not, ◌||◌}
 use mathlib.Core.List.{List}
 use lib.Dec.{eqb}
 use lib.ListN.{length}
 use Rattle.rules.specs.Bytes.{byte_at}
+use Rattle.rules.specs.Lists.{least}
 use Rattle.rules.specs.Table.{plan_count, entry}
 use Rattle.rules.specs.Words.{word}
 use Rattle.rules.specs.HandedIn.{bad_state}
@@ -28,11 +29,12 @@ use Rattle.rules.proofs.Outcomes.{
 use Rattle.rules.proofs.Tree.{passes, tree}
 use Rattle.children.specs.Sets.{Rooted}
 use Rattle.lowest.specs.Lowest.{Lowest}
+use Rattle.lowest.proofs.Lowest.{lowest_is}
 use Rattle.table.specs.Facts.{Facts}
-use Rattle.table.proofs.Reading.{found_at, found_none, prepared}
+use Rattle.table.proofs.Reading.{prepared}
 use Rattle.demands.proofs.PassedCall.{lengths_agree, table_passes, lengths, handed_in}
 use Rattle.lent.specs.Calls.{Counted, Tabled, Called, MayMove}
-use Rattle.std.specs.Prelude.{Err}
+use Rattle.std.specs.Prelude.{Option, Some, None, Err}
 
 -- a table that passes: its n plans have earlier parents
 pub rooted : (t : List ℕ) → table_check t ≡ Done → (n : ℕ) → n ≡ plan_count t → Rooted t n
@@ -51,6 +53,11 @@ pub word_tested :
 unfolding bad_word
 word_tested t w n counts counted p l e x ee ex = rw (ee, ex, counted.counted p l)
 
+-- a search over the n plans of a table
+lowest_of :
+    (t : List ℕ) (n : ℕ) → n ≡ plan_count t → (f : ℕ → Bool) (r : Option ℕ) → Lowest f n r → least f (plan_count t) ≡ r
+lowest_of t n whole f r lowest = ap (least f) (sym whole) ∙ lowest_is f n r lowest
+
 -- checks 10 to 12: where they stop
 module _ (t s w c : List ℕ) (n : ℕ) (whole : n ≡ plan_count t) where
   -- check 10, as the code makes it
@@ -68,21 +75,21 @@ module _ (t s w c : List ℕ) (n : ℕ) (whole : n ≡ plan_count t) where
         let long = lengths_agree t s w c (rw whole at agree) in
         (omega (arith, whole, long.0), omega (arith, whole, long.1))
 
-    pub stops_at_state : (p : ℕ) → Lowest (bad_state t s) n p → p < n → lent_check t s w c ≡ Err (State p)
+    pub stops_at_state : (p : ℕ) → Lowest (bad_state t s) n (Some p) → lent_check t s w c ≡ Err (State p)
     unfolding lent_check
-    stops_at_state p lowest l = pass _ _ _ (rw whole at agree) ∙ stop_at _ _ _ p (found_at t n whole _ p lowest l)
+    stops_at_state p lowest = pass _ _ _ (rw whole at agree) ∙ stop_at _ _ _ p (lowest_of t n whole _ _ lowest)
 
-    pub only_words : (r : ℕ) → Lowest (bad_state t s) n r → n ≤ r → lent_check t s w c ≡ call_words_check t w
+    pub only_words : Lowest (bad_state t s) n None → lent_check t s w c ≡ call_words_check t w
     unfolding lent_check
-    only_words r states none = pass _ _ _ (rw whole at agree) ∙ pass_at _ _ _ (found_none t n whole _ r states none)
+    only_words lowest = pass _ _ _ (rw whole at agree) ∙ pass_at _ _ _ (lowest_of t n whole _ _ lowest)
 
 -- check 12, by the lowest wrong word
-module _ (t w : List ℕ) (n : ℕ) (whole : n ≡ plan_count t) (p : ℕ) (lowest : Lowest (bad_word t w) n p) where
-  pub wrong_word_lem : p < n → call_words_check t w ≡ Err (Word 0 p)
-  wrong_word_lem l = stop_at_last _ _ p (found_at t n whole _ p lowest l)
+module _ (t w : List ℕ) (n : ℕ) (whole : n ≡ plan_count t) where
+  pub wrong_word_lem : (p : ℕ) → Lowest (bad_word t w) n (Some p) → call_words_check t w ≡ Err (Word 0 p)
+  wrong_word_lem p lowest = stop_at_last _ _ p (lowest_of t n whole _ _ lowest)
 
-  pub right_words : n ≤ p → call_words_check t w ≡ Done
-  right_words l = pass_at_last _ _ (found_none t n whole _ p lowest l)
+  pub right_words : Lowest (bad_word t w) n None → call_words_check t w ≡ Done
+  right_words lowest = pass_at_last _ _ (lowest_of t n whole _ _ lowest)
 
 -- a table that passes, its numbers of children and as many words
 pub counted : (t counts w : List ℕ) → Tabled t counts → (n : ℕ) → n ≡ plan_count t → length w ≡ 4 * n → Counted t n counts w

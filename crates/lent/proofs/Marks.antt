@@ -8,7 +8,7 @@ use mathlib.Core.Path.{◌≡◌, refl, sym, ap, ap₂, ◌∙◌}
 use mathlib.Core.Bool.{Bool, true, false, not, ◌&&◌, ◌||◌, and-false, or-false, or-true}
 use mathlib.Core.List.{List, [], ◌∷◌}
 use lib.Dec.{eqb, ltb}
-use lib.ListN.{length, set, replicate, length-set, length-replicate, get_or-replicate}
+use lib.ListN.{length, get_or, set, replicate, length-set, length-replicate, get_or-replicate}
 use lib.Seq.{get_or-set_same, get_or-set_other}
 use borrow.Author.Count.{below_more}
 use borrow.Author.Tests.{lt-ltb, le-ltb, ne_eqb}
@@ -79,17 +79,17 @@ module _ (t : List ℕ) where
   some_before_lem s f q p h = lower_only (λ c. f (state_at s c)) q p (plan_count t) h
 
 -- a mark for each of the first n plans q: some child of q before p passes q's test
-pub record Marks (t : List ℕ) (n : ℕ) (f : ℕ → ℕ → Bool) (p : ℕ) (marks : List ℕ) : Type 0 where
+pub record Marks (t : List ℕ) (n : ℕ) (f : ℕ → ℕ → Bool) (p : ℕ) (marks : List Bool) : Type 0 where
   pub room : n ≤ length marks
-  pub mark : (q : ℕ) → q < n → eqb (byte_at marks q) 1 ≡ some (f q) (children_before t q p)
+  pub mark : (q : ℕ) → q < n → get_or marks q false ≡ some (f q) (children_before t q p)
 
 -- before the first turn: no plan has a child before plan 1
-pub marks_none : (t : List ℕ) (n : ℕ) (f : ℕ → ℕ → Bool) (m : ℕ) → n ≤ m → Marks t n f 1 (replicate m 0)
+pub marks_none : (t : List ℕ) (n : ℕ) (f : ℕ → ℕ → Bool) (m : ℕ) → n ≤ m → Marks t n f 1 (replicate m false)
 unfolding children_before
 marks_none t n f m h =
     record {
       room = rw length-replicate h;
-      mark = λ q l. rw (get_or-replicate {A = ℕ} m q 0 0 (omega arith));
+      mark = λ q l. rw (get_or-replicate {A = Bool} m q false false (omega arith));
     }
 
 -- plan p adds to the mark of its parent q, and to no other
@@ -98,20 +98,21 @@ module _
     (n : ℕ)
     (f : ℕ → ℕ → Bool)
     (p : ℕ)
-    (marks : List ℕ)
+    (marks : List Bool)
     (before : Marks t n f p marks)
     (h : 0 < p)
-    (q v : ℕ)
+    (q : ℕ)
+    (v : Bool)
     (l : q < n)
     (eq : q ≡ parent t p)
-    (ev : eqb v 1 ≡ (eqb (byte_at marks q) 1 || f q p))
+    (ev : v ≡ (get_or marks q false || f q p))
   where
-    mark_more : (k : ℕ) → k < n → Dec (k ≡ q) → eqb (byte_at (set marks q v) k) 1 ≡ some (f k) (children_before t k (suc p))
+    mark_more : (k : ℕ) → k < n → Dec (k ≡ q) → get_or (set marks q v) k false ≡ some (f k) (children_before t k (suc p))
     mark_more k lk (yes e) =
-        rw (e, get_or-set_same marks q v 0 (omega (arith, before.room)), children_own t q p h (sym eq))
+        rw (e, get_or-set_same marks q v false (omega (arith, before.room)), children_own t q p h (sym eq))
         (ev ∙ rw (before.mark q l) (sym (some_snoc (f q) (children_before t q p) p true)))
     mark_more k lk (no ne) =
-        rw (get_or-set_other marks q k v 0 ne, children_other t k p h (λ e. ne (sym e ∙ sym eq))) (before.mark k lk)
+        rw (get_or-set_other marks q k v false ne, children_other t k p h (λ e. ne (sym e ∙ sym eq))) (before.mark k lk)
 
     mark_next : Marks t n f (p + 1) (set marks q v)
     mark_next =
@@ -122,7 +123,7 @@ module _
 
 -- where plan p passes no test, the marks stand
 marks_kept :
-    (t : List ℕ) (n : ℕ) (f : ℕ → ℕ → Bool) (p : ℕ) (marks : List ℕ) → ((q : ℕ) → f q p ≡ false) → Marks t n f p marks
+    (t : List ℕ) (n : ℕ) (f : ℕ → ℕ → Bool) (p : ℕ) (marks : List Bool) → ((q : ℕ) → f q p ≡ false) → Marks t n f p marks
     → Marks t n f (p + 1) marks
 marks_kept t n f p marks none before =
     record {
@@ -141,7 +142,7 @@ abbrev pub shut_at : List ℕ → List ℕ → ℕ → ℕ → Bool
 shut_at t s q c = shuts (body_of (entry t q)) (retry_aborted (entry t q)) (state_at s c)
 
 -- what `lowest_bad_state` knows before its turn at plan p
-pub record Marking (t s : List ℕ) (n p : ℕ) (alone shut : List ℕ) : Type 0 where
+pub record Marking (t s : List ℕ) (n p : ℕ) (alone shut : List Bool) : Type 0 where
   pub started : 0 < p
   pub within : p ≤ n
   pub passed : (k : ℕ) → k < p → bad_state t s k ≡ false
@@ -191,7 +192,7 @@ inactive_keeps IfThenElse alone shut = refl
 pub record MarkTurn
     (t s : List ℕ)
     (n p : ℕ)
-    (alone shut : List ℕ)
+    (alone shut : List Bool)
     (q : ℕ)
     (e : PlanEntry)
     (body : Body)
@@ -201,9 +202,9 @@ pub record MarkTurn
   where
     pub tested : bad_state t s p ≡ (not fits || breaks)
     pub next :
-        bad_state t s p ≡ false → (again stands lets : Bool) (v u : ℕ) → again ≡ retry_aborted e → stands ≡ stands_alone body child
-        → lets ≡ lets_later body again child → eqb v 1 ≡ (eqb (byte_at alone q) 1 || stands)
-        → eqb u 1 ≡ (eqb (byte_at shut q) 1 || not lets)
+        bad_state t s p ≡ false → (again stands lets v u : Bool) → again ≡ retry_aborted e → stands ≡ stands_alone body child
+        → lets ≡ lets_later body again child → v ≡ (get_or alone q false || stands)
+        → u ≡ (get_or shut q false || not lets)
         → Marking t s n (p + 1) (set alone q v) (set shut q u)
 
 -- a test that no number passes, and tests that agree
@@ -246,7 +247,7 @@ module _
     (t s : List ℕ)
     (n p : ℕ)
     (whole : n ≡ plan_count t)
-    (alone shut : List ℕ)
+    (alone shut : List Bool)
     (before : Marking t s n p alone shut)
     (l : p < n)
     (coded : byte_at s p ≤ 8)
@@ -270,14 +271,14 @@ module _
 
     -- q's marks, where its body is known
     module _ (body : Body) (is_body : body_of (entry t q) ≡ body) where
-      marked_alone : some (λ c. stands_alone body (state_at s c)) (children_before t q p) ≡ eqb (byte_at alone q) 1
+      marked_alone : some (λ c. stands_alone body (state_at s c)) (children_before t q p) ≡ get_or alone q false
       marked_alone =
           sym
           (before.alone_marks.mark q inside
           ∙ ap (λ (b : Body). some (λ c. stands_alone b (state_at s c)) (children_before t q p)) is_body)
 
       -- too early by the mark, where Inactive children keep the later ones so; never, where all children let them be
-      early_shut : lets_later body again Inactive ≡ false → too_early t s body q p ≡ (begun && eqb (byte_at shut q) 1)
+      early_shut : lets_later body again Inactive ≡ false → too_early t s body q p ≡ (begun && get_or shut q false)
       early_shut e =
           ap (λ (b : Bool). begun && b)
           (lower_test (λ x. not (lets_later body again x)) (shuts body again) (shuts_by body again e)
@@ -293,7 +294,7 @@ module _
     -- the rule of q's body, by q's marks
     body_by :
         (body : Body) → body_of (entry t q) ≡ body
-        → breaks_body t s body q p ≡ breaks_by body (state_at s p) (eqb (byte_at alone q) 1) (eqb (byte_at shut q) 1)
+        → breaks_body t s body q p ≡ breaks_by body (state_at s p) (get_or alone q false) (get_or shut q false)
     body_by Leaf e = early_never Leaf (λ x. refl)
     body_by Sequential e = early_shut Sequential e refl
     body_by Parallel e = early_never Parallel (λ x. refl)
@@ -313,7 +314,7 @@ module _
     bad_by :
         bad_state t s p
         ≡ (not (suits (state_at s q) (state_at s p))
-        || breaks_by (body_of (entry t q)) (state_at s p) (eqb (byte_at alone q) 1) (eqb (byte_at shut q) 1))
+        || breaks_by (body_of (entry t q)) (state_at s p) (get_or alone q false) (get_or shut q false))
     bad_by =
         bad_under t s p before.started coded
         ∙ ap (λ (k : ℕ). breaks_under t s k p) (sym is_parent)
@@ -323,7 +324,7 @@ module _
     pub mark_turn :
         (byte_at s p ≡ 0 → ⊥) → (e : PlanEntry) (child above : PlanState) (body : Body) (fits breaks : Bool) → e ≡ entry t q
         → child ≡ state_of (byte_at s p) → above ≡ state_of (byte_at s q) → body ≡ body_of e → fits ≡ suits above child
-        → breaks ≡ breaks_by body child (eqb (byte_at alone q) 1) (eqb (byte_at shut q) 1)
+        → breaks ≡ breaks_by body child (get_or alone q false) (get_or shut q false)
         → MarkTurn t s n p alone shut q e body child fits breaks
     mark_turn moving e child above body fits breaks ee ec ea eb ef ek =
         let not_idle : is Inactive (state_at s p) ≡ false =
@@ -346,7 +347,7 @@ module _
         }
 
     -- the turn at an Inactive plan: it breaks no rule, does not stand alone and keeps the later ones Inactive
-    pub idle_turn : byte_at s p ≡ 0 → Marking t s n (p + 1) alone (set shut q 1)
+    pub idle_turn : byte_at s p ≡ 0 → Marking t s n (p + 1) alone (set shut q true)
     idle_turn zero_byte =
         let idle : state_at s p ≡ Inactive = state_is s p ∙ ap state_of zero_byte in
         let good : bad_state t s p ≡ false = bad_by ∙ rw (idle, inactive_suits (state_at s q), inactive_keeps) refl in
@@ -356,6 +357,6 @@ module _
           passed = below_more _ _ before.passed good;
           alone_marks = marks_kept t n (alone_at t s) p alone (λ k. rw (idle, and-false) refl) before.alone_marks;
           shut_marks =
-              mark_next t n (shut_at t s) p shut before.shut_marks before.started q 1 inside is_parent
-              (rw idle (sym (or-true (eqb (byte_at shut q) 1))));
+              mark_next t n (shut_at t s) p shut before.shut_marks before.started q true inside is_parent
+              (rw idle (sym (or-true (get_or shut q false))));
         }

@@ -2,7 +2,7 @@
 // its table. Each check costs O(n) for n plans; nothing is allocated. Assumes nothing.
 #![tactic(auto)]
 
-ghost use Rattle.std.specs.Prelude.{◌≡◌, ◌||◌, eqb};
+ghost use Rattle.std.specs.Prelude.{◌≡◌, ◌<◌};
 ghost use Rattle.rules.specs.Words.{pick_allowed, contradicts};
 ghost use Rattle.rules.specs.Step.{done};
 ghost use Rattle.rules.specs.HandedIn.{suits, lets_later, bad_state};
@@ -35,10 +35,8 @@ pub fn check_call(
     if !is_rule(rule) {
         return Err(Refusal::RuleNumber);
     }
-    match read_table(table, ranks, counts, names) {
-        Err(why) => Err(why),
-        Ok(()) => check_lent(table, counts, states, words, causes),
-    }
+    read_table(table, ranks, counts, names)?;
+    check_lent(table, counts, states, words, causes)
 }
 
 // Check 12 of the words of a call, which are as many as the n plans of its table.
@@ -46,11 +44,10 @@ pub fn check_words(table: &[u8], n: usize, counts: &[u8], words: &[u8]) -> Resul
     requires { Counted table.now n counts.now words.now }
     ensures { result ≡ call_words_check table.now words.now }
 {
-    let word = lowest_bad_word(table, n, counts, words);
-    if word < n {
+    if let Some(plan) = lowest_bad_word(table, n, counts, words) {
         return Err(Refusal::Word {
             step: 0,
-            plan: word as u16,
+            plan: plan as u16,
         });
     }
     Ok(())
@@ -69,69 +66,71 @@ pub fn wrong_word_if(x: u32, unused: u32, pick_allowed: bool) -> bool
 pub fn unused_bits(body: Body) -> u32
     ensures { result ≡ unused_bits body }
 {
-    if (body == Body::IfThenElse) {
+    if body == Body::IfThenElse {
         return 0xC0C0_0000;
     }
     0xC0F0_0000
 }
 
 // Checks 10 to 12 of a call whose table passes.
-fn check_lent(table: &[u8], counts: &[u8], states: &[u8], words: &[u8], causes: &[u8]) -> Result<(), Refusal>
+fn check_lent(
+    table: &[u8],
+    counts: &[u8],
+    states: &[u8],
+    words: &[u8],
+    causes: &[u8],
+) -> Result<(), Refusal>
     requires { Tabled table.now counts.now }
     ensures { result ≡ lent_check table.now states.now words.now causes.now }
 {
-    let n = u16_at(table, 5) as usize;
+    let n = usize::from(u16_at(table, 5));
     if (states.len() != n) | (words.len() != 4 * n) | (causes.len() != n) {
         return Err(Refusal::Lengths);
     }
-    let state = lowest_bad_state(table, n, states);
-    if state < n {
-        return Err(Refusal::State { plan: state as u16 });
+    if let Some(plan) = lowest_bad_state(table, n, states) {
+        return Err(Refusal::State { plan: plan as u16 });
     }
     check_words(table, n, counts, words)
 }
 
-// Check 11: the lowest plan that breaks a rule together with lower plans, or n. One pass: what counts of the lower children is marked
-// at their parent. Most plans are Inactive, so these have a short way: as a child such a plan breaks no rule, whatever its parent.
-fn lowest_bad_state(table: &[u8], n: usize, states: &[u8]) -> usize
+// Check 11: the lowest plan that breaks a rule together with lower plans. One pass: what counts of the lower children is marked at their
+// parent. Most plans are Inactive, so these have a short way: as a child such a plan breaks no rule, whatever its parent.
+fn lowest_bad_state(table: &[u8], n: usize, states: &[u8]) -> Option<usize>
     requires { Planned table.now n states.now }
     ensures { Lowest (bad_state table.now states.now) n result }
 {
-    let mut alone = [0u8; 256];
-    let mut shut = [0u8; 256];
+    let mut alone = [false; 256];
+    let mut shut = [false; 256];
     if PlanState::REJECTED < states[0] {
-        return 0;
+        return Some(0);
     }
-    let mut p = 1;
-    while p < n {
+    for p in 1..n {
         if PlanState::REJECTED < states[p] {
-            return p;
+            return Some(p);
         }
         let q = parent_at(table, p);
         if states[p] == PlanState::INACTIVE {
-            shut[q] = 1;
-            p += 1;
+            shut[q] = true;
             continue;
         }
         let e = entry_at(table, q);
         let body = e.body_kind();
         let child = PlanState::from_byte(states[p]);
         let fits = child_suits(PlanState::from_byte(states[q]), child);
-        if !fits | breaks_by(body, child, alone[q] == 1, shut[q] == 1) {
-            return p;
+        if !fits | breaks_by(body, child, alone[q], shut[q]) {
+            return Some(p);
         }
-        alone[q] = marked(alone[q], stands_alone(body, child));
-        shut[q] = marked(shut[q], !lets_later(body, e.retries_aborted(), child));
-        p += 1;
+        alone[q] = alone[q] | stands_alone(body, child);
+        shut[q] = shut[q] | !lets_later(body, e.retries_aborted(), child);
     }
-    p
+    None
 }
 
 // Whether a child's state suits its parent's.
 fn child_suits(parent: PlanState, child: PlanState) -> bool
     ensures { result ≡ suits parent child }
 {
-    let idle = (child == PlanState::Inactive);
+    let idle = child == PlanState::Inactive;
     match parent {
         PlanState::Inactive
         | PlanState::Considered
@@ -139,7 +138,7 @@ fn child_suits(parent: PlanState, child: PlanState) -> bool
         | PlanState::Ready
         | PlanState::Rejected => idle,
         PlanState::Activated => true,
-        PlanState::Suspended => (child != PlanState::Activated),
+        PlanState::Suspended => child != PlanState::Activated,
         PlanState::Completed | PlanState::Aborted => idle | child.is_ended(),
     }
 }
@@ -148,16 +147,11 @@ fn child_suits(parent: PlanState, child: PlanState) -> bool
 fn breaks_by(body: Body, child: PlanState, alone: bool, shut: bool) -> bool
     ensures { result ≡ breaks_by body child alone shut }
 {
-    let begun = (child != PlanState::Inactive);
+    let begun = child != PlanState::Inactive;
     match body {
-        Body::Leaf => false,
-        Body::Sequential => begun & shut,
-        Body::Parallel => false,
+        Body::Leaf | Body::Parallel | Body::Unordered => false,
+        Body::Sequential | Body::OnAbort | Body::OnSuspend | Body::OnAbortOrSuspend => begun & shut,
         Body::AnyOrder => child.in_execution() & alone,
-        Body::Unordered => false,
-        Body::OnAbort => begun & shut,
-        Body::OnSuspend => begun & shut,
-        Body::OnAbortOrSuspend => begun & shut,
         Body::IfThenElse => begun & alone,
     }
 }
@@ -175,15 +169,11 @@ fn lets_later(body: Body, again: bool, state: PlanState) -> bool
     ensures { result ≡ lets_later body again state }
 {
     match body {
-        Body::Leaf => true,
+        Body::Leaf | Body::Parallel | Body::AnyOrder | Body::Unordered => true,
         Body::Sequential => is_done(again, state),
-        Body::Parallel => true,
-        Body::AnyOrder => true,
-        Body::Unordered => true,
-        Body::OnAbort => (state == PlanState::Aborted),
-        Body::OnSuspend => state.has_run(),
-        Body::OnAbortOrSuspend => state.has_run(),
-        Body::IfThenElse => (state == PlanState::Inactive),
+        Body::OnAbort => state == PlanState::Aborted,
+        Body::OnSuspend | Body::OnAbortOrSuspend => state.has_run(),
+        Body::IfThenElse => state == PlanState::Inactive,
     }
 }
 
@@ -191,30 +181,27 @@ fn lets_later(body: Body, again: bool, state: PlanState) -> bool
 fn is_done(again: bool, state: PlanState) -> bool
     ensures { result ≡ done again state }
 {
-    let b = state.to_byte();
-    (b == PlanState::COMPLETED) | (b == PlanState::REJECTED) | ((b == PlanState::ABORTED) & !again)
+    match state {
+        PlanState::Completed | PlanState::Rejected => true,
+        PlanState::Aborted => !again,
+        _ => false,
+    }
 }
 
-// 1 where a test has held, once it has.
-fn marked(mark: u8, test: bool) -> u8
-    ensures { eqb result 1 ≡ (eqb mark 1 || test) }
-{
-    if test { 1 } else { mark }
-}
-
-// Check 12: the lowest plan with a wrong word, or n.
-fn lowest_bad_word(table: &[u8], n: usize, counts: &[u8], words: &[u8]) -> usize
+// Check 12: the lowest plan with a wrong word.
+fn lowest_bad_word(table: &[u8], n: usize, counts: &[u8], words: &[u8]) -> Option<usize>
     requires { Counted table.now n counts.now words.now }
     ensures { Lowest (bad_word table.now words.now) n result }
 {
-    let mut p = 0;
-    while p < n {
-        if wrong_word(entry_at(table, p), counts[p], word_at(words, p)) {
-            return p;
-        }
-        p += 1;
-    }
-    p
+    (0..n).find(|&p| is_bad_word(table, n, counts, words, p))
+}
+
+// Whether the word of plan p is wrong.
+fn is_bad_word(table: &[u8], n: usize, counts: &[u8], words: &[u8], p: usize) -> bool
+    requires { Counted table.now n counts.now words.now × (p < n) }
+    ensures { result ≡ bad_word table.now words.now p }
+{
+    wrong_word(entry_at(table, p), counts[p], word_at(words, p))
 }
 
 // Check 12 of one word, by its plan's entry and number of children.
@@ -229,8 +216,8 @@ fn wrong_word(e: PlanEntry, count: u8, x: u32) -> bool
 fn may_pick(body: Body, count: u8, pick: u32) -> bool
     ensures { result ≡ pick_allowed body count pick }
 {
-    if (body == Body::AnyOrder) {
-        return pick < count as u32;
+    if body == Body::AnyOrder {
+        return pick < u32::from(count);
     }
     pick == 0
 }

@@ -36,12 +36,12 @@ take_picks_once κs a z z' e e' h h' =
     written_once a.1.0 _ _ _ h.1 h'.1 (λ q l. one_answer (h.0.taken q l) (h'.0.taken q l))
 
 pub advance_once :
-    (κs : Lfts 8) (a : _) (z z' : _) (e e' : _) → advance.Post κs a z e → advance.Post κs a z' e'
-    → e.1.1.1.1.1.1.1.1.1.0.now ≡ e'.1.1.1.1.1.1.1.1.1.0.now
+    (κs : Lfts 3) (a : _) (z z' : _) (e e' : _) → advance.Post κs a z e → advance.Post κs a z' e'
+    → e.1.0.now ≡ e'.1.0.now
 advance_once κs a z z' e e' h h' =
-    let n : ℕ = a.1.1.0 in
+    let n : ℕ = a.0.now.n in
     written_once n _ _ _ h.1 h'.1
     (λ k l.
-    sym (get_or-take n e.1.1.1.1.1.1.1.1.1.0.now k 0 l)
+    sym (get_or-take n e.1.0.now k 0 l)
     ∙ ap (λ (x : List ℕ). get_or x k 0) (one_answer h.0 h'.0)
-    ∙ get_or-take n e'.1.1.1.1.1.1.1.1.1.0.now k 0 l)
+    ∙ get_or-take n e'.1.0.now k 0 l)

@@ -13,36 +13,24 @@ ghost use Rattle.moves.specs.Causes.{causes_told};
 ghost use Rattle.moves.specs.MoveFacts.{CauseFacts};
 ghost use Rattle.pass.specs.Taken.{Taken};
 
+use family::Scene;
 use moves::{cause, next_state};
 use reading::word_at;
 use rules::pick_of;
 
-// One step from `old` into `new` by a rule and under picks, a rank for each plan: plans move in table order. The step, the run and the
-// checker all go through this one loop, the only caller of a move, which is then compiled into it.
-pub fn advance(
-    rule: u32,
-    table: &[u8],
-    n: usize,
-    ranks: &[u8],
-    names: &[u64],
-    sets: &[u64],
-    picks: &[u8],
-    old: &[u8],
-    words: &[u8],
-    new: &mut [u8],
-)
-    requires facts { StepFacts table.now old.now ranks.now sets.now picks.now }
-    requires names { Names table.now names.now }
-    requires room { (n ≡ plan_count table.now) × (n ≤ length new.old) × (4 * n ≤ length words.now) }
-    ensures moved { take n new.new
-        ≡ step_under rule table.now old.now words.now (picks_of picks.now) }
-    ensures rest { Beyond n new.old new.new }
+// One step from the old states into `new`, by the rule and under the picks: plans move in table order. The step, the run and the checker
+// all go through this one loop, the only caller of a move, which is then compiled into it.
+pub fn advance(scene: &Scene, new: &mut [u8])
+    requires facts { StepFacts scene.now.table.now scene.now.old.now scene.now.ranks.now scene.now.sets.now scene.now.picks.now }
+    requires names { Names scene.now.table.now scene.now.names.now }
+    requires room { (scene.now.n ≡ plan_count scene.now.table.now) × (scene.now.n ≤ length new.old)
+        × (4 * scene.now.n ≤ length scene.now.words.now) }
+    ensures moved { take scene.now.n new.new
+        ≡ step_under scene.now.rule scene.now.table.now scene.now.old.now scene.now.words.now (picks_of scene.now.picks.now) }
+    ensures rest { Beyond scene.now.n new.old new.new }
 {
-    for p in 0..n {
-        new[p] = next_state(
-            rule, table, n, ranks, names, sets, picks, old, words, new, p,
-        )
-        .to_byte();
+    for p in 0..scene.n {
+        new[p] = u8::from(next_state(scene, new, p));
     }
 }
 
@@ -63,9 +51,8 @@ pub fn tell_causes(table: &[u8], old: &[u8], words: &[u8], new: &[u8], causes: &
     ensures { causes.new ≡ causes_told table.now old.now words.now new.now
         (length causes.old) }
 {
-    let n = causes.len();
-    for p in 0..n {
-        causes[p] = cause(table, old, words, new, p).to_byte();
+    for (p, told) in causes.iter_mut().enumerate() {
+        *told = u8::from(cause(table, old, words, new, p));
     }
 }
 
@@ -75,9 +62,7 @@ pub fn take_over(new: &[u8], states: &mut [u8])
     ensures { states.new ≡ take (length states.old) new.now }
 {
     let n = states.len();
-    for p in 0..n {
-        states[p] = new[p];
-    }
+    states.copy_from_slice(&new[..n]);
 }
 
 // Whether the new states are the states.
@@ -86,12 +71,5 @@ pub fn unchanged(new: &[u8], states: &[u8]) -> bool
     ensures { result ≡ same (take (length states.now) new.now) states.now }
 {
     let n = states.len();
-    let mut p = 0;
-    while p < n {
-        if new[p] != states[p] {
-            return false;
-        }
-        p += 1;
-    }
-    true
+    &new[..n] == states
 }

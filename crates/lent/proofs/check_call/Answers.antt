@@ -8,23 +8,23 @@ use Rattle.lent.proofs.check_call.Goals as goal
 pub returns-then-not-is_rule : goal.returns-then-not-is_rule
 returns-then-not-is_rule c = call_unruled _ _ _ _ _ _ _ _ _ (rule_stops _ c.is_rule.ensures (ap not c.if-not-is_rule.true))
 
-pub returns-in-Refused : goal.returns-in-Refused
-returns-in-Refused c =
+pub returns-in_err-read_table : goal.returns-in_err-read_table
+returns-in_err-read_table c =
     let ruled = rule_passes _ c.is_rule.ensures (ap not c.if-not-is_rule.false) in
-    call_refused _ _ _ _ _ _ _ _ ruled _ (sym c.read_table.ensures.is ∙ c.in-Refused.is)
+    call_refused _ _ _ _ _ _ _ _ ruled _ (sym c.read_table.ensures.is ∙ c.in_err-read_table.was)
 
 pub check_lent-requires : goal.check_lent-requires
 check_lent-requires c =
-    let facts = c.read_table.ensures.facts c.in-Done.is in
-    let done = sym c.read_table.ensures.is ∙ c.in-Done.is in
+    let facts = c.read_table.ensures.facts c.in_ok-read_table.was in
+    let done = sym c.read_table.ensures.is ∙ c.in_ok-read_table.was in
     record {
       done = done;
       room = omega (arith, c.requires.counts_room (passes _ done).header);
       counted = facts.counted;
     }
 
-pub returns-in-Done : goal.returns-in-Done
-returns-in-Done c =
+pub returns : goal.returns
+returns c =
     let ruled = rule_passes _ c.is_rule.ensures (ap not c.if-not-is_rule.false) in
-    let done = sym c.read_table.ensures.is ∙ c.in-Done.is in
-    call_lent _ _ _ _ _ _ _ _ ruled _ done (c.read_table.ensures.facts c.in-Done.is) c.check_lent.ensures
+    let done = sym c.read_table.ensures.is ∙ c.in_ok-read_table.was in
+    call_lent _ _ _ _ _ _ _ _ ruled _ done (c.read_table.ensures.facts c.in_ok-read_table.was) c.check_lent.ensures

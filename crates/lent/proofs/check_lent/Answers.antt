@@ -10,8 +10,8 @@ u16_at-n-requires c = omega (arith, (passes _ c.requires.done).long)
 pub returns-then-states-n : goal.returns-then-states-n
 returns-then-states-n c = sym (stops_at_lengths _ _ _ _ _ c.u16_at-n.ensures c.if-states-n.true)
 
-pub lowest_bad_state-state-requires : goal.lowest_bad_state-state-requires
-lowest_bad_state-state-requires c =
+pub lowest_bad_state-requires : goal.lowest_bad_state-requires
+lowest_bad_state-requires c =
     let done = c.requires.done in
     let whole = c.u16_at-n.ensures in
     let long = agreed c.args.table.now c.args.states.now c.args.words.now c.args.causes.now _ whole c.if-states-n.false in
@@ -22,9 +22,8 @@ lowest_bad_state-state-requires c =
       states_room = omega (arith, long.0);
     }
 
-pub returns-then-state-n : goal.returns-then-state-n
-returns-then-state-n c =
-    sym (stops_at_state _ _ _ _ _ c.u16_at-n.ensures c.if-states-n.false _ c.lowest_bad_state-state.ensures c.if-state-n.true)
+pub returns-in-Some : goal.returns-in-Some
+returns-in-Some c = sym (stops_at_state _ _ _ _ _ c.from-n.ensures c.if-states-n.false _ c.in-Some.ensures)
 
 pub check_words-requires : goal.check_words-requires
 check_words-requires c =
@@ -35,4 +34,4 @@ check_words-requires c =
 pub returns : goal.returns
 returns c =
     c.check_words.ensures
-    ∙ sym (only_words _ _ _ _ _ c.u16_at-n.ensures c.if-states-n.false _ c.lowest_bad_state-state.ensures c.if-state-n.false)
+    ∙ sym (only_words _ _ _ _ _ c.u16_at-n.ensures c.if-states-n.false c.in_default.ensures)

@@ -3,8 +3,8 @@ use Rattle.std.proofs.Common.{sym}
 use Rattle.lent.proofs.Calls.{wrong_word_lem, right_words}
 use Rattle.lent.proofs.check_words.Goals as goal
 
-pub returns-then-word-n : goal.returns-then-word-n
-returns-then-word-n c = sym (wrong_word_lem _ _ _ c.requires.whole _ c.lowest_bad_word-word.ensures c.if-word-n.true)
+pub returns-in-Some : goal.returns-in-Some
+returns-in-Some c = sym (wrong_word_lem _ _ _ c.requires.whole _ c.in-Some.ensures)
 
 pub returns : goal.returns
-returns c = sym (right_words _ _ _ c.requires.whole _ c.lowest_bad_word-word.ensures c.if-word-n.false)
+returns c = sym (right_words _ _ _ c.requires.whole c.in_default.ensures)

@@ -1,12 +1,11 @@
 -- `lowest_bad_state` meets its contract: a turn at plan p passes it and adds to its parent's marks, by a short way where
 -- p is Inactive. Assumes nothing.
-use Rattle.std.proofs.Common.{◌≡◌, ◌∙◌, ◌<◌, arith, below_none}
-use Rattle.lowest.proofs.Lowest.{stops_here}
+use Rattle.std.proofs.Common.{◌≡◌, refl, ◌∙◌, ◌<◌, arith, below_none}
 use Rattle.lent.proofs.Marks.{marks_none, bad_code, good_root, mark_turn, idle_turn}
 use Rattle.lent.proofs.lowest_bad_state.Goals as goal
 
 pub returns-then-states-gt-REJECTED : goal.returns-then-states-gt-REJECTED
-returns-then-states-gt-REJECTED c = stops_here _ _ 0 (below_none _) (omega arith) (bad_code _ _ 0 c.if-states-gt-REJECTED.true)
+returns-then-states-gt-REJECTED c = (c.requires.some, bad_code _ _ 0 c.if-states-gt-REJECTED.true, below_none _)
 
 pub loop-p-init : goal.loop-p-init
 loop-p-init c =
@@ -21,7 +20,7 @@ loop-p-init c =
 
 pub returns-then-states-p-gt-REJECTED : goal.returns-then-states-p-gt-REJECTED
 returns-then-states-p-gt-REJECTED c =
-    stops_here _ _ _ c.loop-p.invariant.passed c.loop-p-test.true (bad_code _ _ _ c.if-states-p-gt-REJECTED.true)
+    (c.loop-p-test.true, bad_code _ _ _ c.if-states-p-gt-REJECTED.true, c.loop-p.invariant.passed)
 
 pub loop-p-preserved-then-states-p-eq-INACTIVE : goal.loop-p-preserved-then-states-p-eq-INACTIVE
 loop-p-preserved-then-states-p-eq-INACTIVE c =
@@ -38,7 +37,7 @@ returns-then-fits-breaks_by c =
     mark_turn _ _ _ _ c.requires.whole _ _ c.loop-p.invariant c.loop-p-test.true c.if-states-p-gt-REJECTED.false _ c.parent_at-q.ensures
     inside c.if-states-p-eq-INACTIVE.false _ _ _ _ _ _ c.entry_at-e.ensures c.from_byte-child.ensures c.from_byte.ensures
     c.body_kind-body.ensures c.child_suits-fits.ensures c.breaks_by.ensures in
-    stops_here _ _ _ c.loop-p.invariant.passed c.loop-p-test.true (turn.tested ∙ c.if-fits-breaks_by.true)
+    (c.loop-p-test.true, turn.tested ∙ c.if-fits-breaks_by.true, c.loop-p.invariant.passed)
 
 pub loop-p-preserved : goal.loop-p-preserved
 loop-p-preserved c =
@@ -49,4 +48,4 @@ loop-p-preserved c =
     inside c.if-states-p-eq-INACTIVE.false _ _ _ _ _ _ c.entry_at-e.ensures c.from_byte-child.ensures c.from_byte.ensures
     c.body_kind-body.ensures c.child_suits-fits.ensures c.breaks_by.ensures in
     turn.next (turn.tested ∙ c.if-fits-breaks_by.false) _ _ _ _ _ c.retries_aborted.ensures c.stands_alone.ensures c.lets_later.ensures
-    c.marked.ensures c.marked-in-loop-p.ensures
+    refl refl

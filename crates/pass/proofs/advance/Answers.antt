@@ -13,25 +13,25 @@ loop-p-init c = record { moved = none_moved _ _ _ _ _ c.args.new.now; rest = non
 pub loop-p-preserved : goal.loop-p-preserved
 loop-p-preserved c =
     let at = c.loop-p in
-    let inside : at.p < plan_count c.args.table.now = omega (arith, c.requires.room.0, c.loop-p-test.true) in
+    let inside : at.p < plan_count c.args.scene.now.table.now = omega (arith, c.requires.room.0, c.loop-p-test.true) in
     let placed : at.p < length at.new = omega (arith, c.requires.room.1, at.invariant.rest.long, c.loop-p-test.true) in
     record {
       moved =
           one_more_moved _ _ _ _ _ at.new at.p _ (λ h. c.requires.facts.down at.p h inside) placed
-          (c.to_byte.ensures ∙ ap code c.next_state.ensures) at.invariant.moved;
+          (c.from.ensures ∙ ap code c.next_state.ensures) at.invariant.moved;
       rest = one_more_written _ at.new at.p _ at.invariant.rest;
     }
 
 pub returns-clause-moved : goal.returns-clause-moved
 returns-clause-moved c =
-    let rule : ℕ = c.args.rule in
-    let t = c.args.table.now in
-    let s = c.args.old.now in
-    let w = c.args.words.now in
-    let picks : ℕ → ℕ = picks_of c.args.picks.now in
+    let scene = c.args.scene.now in
+    let t = scene.table.now in
+    let s = scene.old.now in
+    let w = scene.words.now in
+    let picks : ℕ → ℕ = picks_of scene.picks.now in
     let at = c.loop-p in
-    let end : at.p ≡ c.args.n = omega (arith, at.auto.p-end, c.loop-p-test.false) in
+    let end : at.p ≡ scene.n = omega (arith, at.auto.p-end, c.loop-p-test.false) in
     ap (λ (k : ℕ). take k at.new) (sym end)
     ∙ at.invariant.moved
-    ∙ ap (λ (k : ℕ). step_first rule t s w (chosen t s picks) k) (end ∙ c.requires.room.0)
-    ∙ all_moved rule t s w picks
+    ∙ ap (λ (k : ℕ). step_first scene.rule t s w (chosen t s picks) k) (end ∙ c.requires.room.0)
+    ∙ all_moved scene.rule t s w picks

@@ -8,6 +8,9 @@ use Rattle.pass.proofs.advance.Given as goal
 abbrev pub invariant-loop-p : goal.invariant-loop-p
 invariant-loop-p l =
     record {
-      moved : take l.p l.new ≡ step_first l.rule l.table l.old l.words (chosen l.table l.old (picks_of l.picks)) l.p;
+      moved :
+          take l.p l.new
+          ≡ step_first l.scene.rule l.scene.table.now l.scene.old.now l.scene.words.now
+          (chosen l.scene.table.now l.scene.old.now (picks_of l.scene.picks.now)) l.p;
       rest : Beyond l.p l.initial.new l.new;
     }
