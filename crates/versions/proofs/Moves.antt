@@ -6,13 +6,12 @@ use mathlib.Core.Bool.{false}
 use mathlib.Core.List.{List, ◌++◌}
 use lib.ListN.{length, take, drop}
 use lib.Seq.{take-append_seam}
-use borrow.Author.Tests.{lt-ltb, le-ltb, ne_eqb, eqb-true, not-false}
+use borrow.Author.Tests.{ltb-false, ne_eqb, eqb-true, not-false}
 use Rattle.rules.specs.Table.{version, plan_count}
 use Rattle.rules.specs.WaitFor.{first_version, node_count}
 use Rattle.rules.specs.Answers.{◌and_then◌, table_check, Outcome, Verdict, Done}
 use Rattle.rules.specs.declared.Refusal.{Refusal}
-use Rattle.rules.specs.declared.Refusal.TheVariants.{OutputShort}
-use Rattle.rules.proofs.Outcomes.{first_done, then_done, if_done, pass_last, stop_last}
+use Rattle.rules.proofs.Outcomes.{first_done, then_done, if_done}
 use Rattle.rules.proofs.Tree.{passes, tree}
 use Rattle.formulas.proofs.Formed.{second_size, plans_within}
 use Rattle.output.specs.Output.{Appended}
@@ -30,18 +29,22 @@ refused check why written output e = (rw (e, move_answer) refl, rw (e, move_outp
 
 -- 24 does
 pub no_room :
-    (written output : List ℕ) → length output < length written
-    → (Err OutputShort ≡ move_answer Done written output) × (output ≡ move_output Done written output)
-unfolding move_answer move_output room_check ◌and_then◌
-no_room written output short = let e = stop_last _ OutputShort (lt-ltb _ _ short) in (rw (e, move_answer) refl, rw (e, move_output) refl)
+    (written output : List ℕ) (why : Refusal) → room_check written output ≡ Err why
+    → (Err why ≡ move_answer Done written output) × (output ≡ move_output Done written output)
+unfolding move_answer move_output ◌and_then◌
+no_room written output why e = (rw (e, move_answer) refl, rw (e, move_output) refl)
 
--- none does, and all is written
+-- it does not: there is room,
+pub has_room : (written output : List ℕ) → room_check written output ≡ Done → length written ≤ length output
+unfolding room_check
+has_room written output e = ltb-false _ _ (if_done _ _ e)
+
+-- and all is written
 pub moved :
-    (written output after : List ℕ) (end : ℕ) → length written ≤ length output → Appended output 0 written after end
+    (written output after : List ℕ) (end : ℕ) → room_check written output ≡ Done → Appended output 0 written after end
     → (Ok end ≡ move_answer Done written output) × (after ≡ move_output Done written output)
-unfolding move_answer move_output room_check ◌and_then◌
-moved written output after end room put =
-    let e = pass_last _ OutputShort (le-ltb _ _ room) in
+unfolding move_answer move_output ◌and_then◌
+moved written output after end e put =
     let place : end ≡ length written = omega (arith, put.place) in
     (rw (e, move_answer) (ap Ok place), rw (e, move_output) (whole put ∙ ap (λ (k : ℕ). written ++ drop k output) place))
 

@@ -1,11 +1,15 @@
 -- One turn of each loop: the plan that is put, or the node, is the next piece. Assumes nothing.
-use Prim.Native.Nat.{ℕ, ◌+◌, ◌*◌, ◌≤◌}
+use Prim.Native.Nat.{ℕ, zero, suc, ◌+◌, ◌*◌, ◌≤◌}
 use native.Mathlib.Numerals.{add-one}
+use Rattle.std.proofs.Common.{add-zero, zero-add}
 use native.Mathlib.Omega.{arith}
-use mathlib.Core.Path.{◌≡◌, ap, subst}
-use mathlib.Core.Bool.{cond}
+use mathlib.Core.Path.{◌≡◌, refl, sym, ap, ◌∙◌, subst}
+use mathlib.Core.Bool.{Bool, true, false, cond, not}
 use mathlib.Core.List.{List, ◌++◌}
 use lib.ListN.{length}
+use mir.Val.{bool_byte}
+use Rattle.std.specs.Prelude.{filter}
+use Rattle.std.specs.List.{range_with_len}
 use Rattle.rules.specs.WaitFor.{is_leaf}
 use Rattle.output.specs.Output.{Appended}
 use Rattle.output.proofs.Pieces.{none_yet, and_then, as_one}
@@ -17,6 +21,36 @@ module _ (t : List ℕ) where
   pub next_count : (p : ℕ) → nodes_before t (p + 1) ≡ nodes_before t p + cond (is_leaf t p) 0 1
   unfolding nodes_before
   next_count p = rw (add-one p)
+
+  -- which is one more where it has children
+  pub next_node_number :
+      (p one : ℕ) (leaf : Bool) → leaf ≡ is_leaf t p → one ≡ bool_byte (not leaf)
+      → (nodes_before t (p + 1) ≡ nodes_before t p + one) × (one ≤ 1)
+  next_node_number p one true e h = (next_count p ∙ ap (λ (b : Bool). nodes_before t p + cond b 0 1) (sym e) ∙ ap (λ (k : ℕ). nodes_before t p + k) (sym h), omega (arith, h))
+  next_node_number p one false e h = (next_count p ∙ ap (λ (b : Bool). nodes_before t p + cond b 0 1) (sym e) ∙ ap (λ (k : ℕ). nodes_before t p + k) (sym h), omega (arith, h))
+
+  -- a plan with children
+  abbrev parts : ℕ → Bool
+  parts i = not (is_leaf t i)
+
+  -- those among the first k plans are counted
+  counted_on : (k p : ℕ) → nodes_before t p + length (filter parts (range_with_len p k)) ≡ nodes_before t (p + k)
+  counted_on zero p = omega (arith, ap (nodes_before t) (add-zero p))
+  counted_on (suc k) p =
+      omega (arith, next_count p, counted_on k (p + 1), here (is_leaf t p) refl, ap (nodes_before t) (one_on k p))
+    where
+      one_on : (k p : ℕ) → p + 1 + k ≡ p + suc k
+      one_on k p = omega arith
+
+      here :
+          (leaf : Bool) → is_leaf t p ≡ leaf
+          → length (filter parts (range_with_len p (suc k))) ≡ cond (is_leaf t p) 0 1 + length (filter parts (range_with_len (p + 1) k))
+      here true e = rw e (omega arith)
+      here false e = rw e (omega arith)
+
+  pub counted : (k : ℕ) → length (filter parts (range_with_len 0 k)) ≡ nodes_before t k
+  unfolding nodes_before
+  counted k = omega (arith, counted_on k 0, ap (nodes_before t) (zero-add k))
 
   module _ {before : List ℕ} where
     -- plans stand behind the header

@@ -2,19 +2,19 @@
 // O(1) for each of them. Assumes nothing.
 #![tactic(auto)]
 
-ghost use Rattle.std.specs.Prelude.{◌≡◌, cond, [], ◌∷◌, ◌+◌, ◌*◌, ◌/◌, ◌%◌, ◌<◌, ◌≤◌, length};
+ghost use Rattle.std.specs.Prelude.{◌≡◌, List, ℕ, cond, [], ◌∷◌, ◌+◌, ◌*◌, ◌/◌, ◌%◌, ◌<◌, ◌≤◌, length};
 ghost use Rattle.rules.specs.Table.{entry};
 ghost use Rattle.rules.specs.WaitFor.{node_count, is_leaf};
-ghost use Rattle.rules.specs.Answers.{refuse_if};
+ghost use Rattle.rules.specs.Answers.{refuse_if, Done};
 ghost use Rattle.output.specs.Output.{Appended};
 ghost use Rattle.versions.specs.Room.{HasPlans, HasNodes};
 ghost use Rattle.versions.specs.Versions.{header_as, plan_as, plans_as, nodes_before, node_as, nodes_as, number_waited};
-ghost use Rattle.versions.specs.Versions.{in_version1, in_version2, version_check, other_kind, check_from, check_to1, check_to2};
+ghost use Rattle.versions.specs.Versions.{in_version1, in_version2, version_check, other_kind, check_from, check_to1, check_to2, room_check};
 ghost use Rattle.versions.specs.Versions.{move_answer, move_output};
 
 use output::{put, put_byte};
 use reading::{byte_at, entry_at, is_leaf, node_at, node_count, plan_count, u16_at};
-use rules::{Refusal};
+use rules::Refusal;
 use table::{check_table, has_mark};
 
 // Puts a table of version 1, as one of version 2, at the start of the output, and answers how many bytes it has; or a refusal that changes
@@ -24,10 +24,8 @@ pub fn to_version_2(table: &[u8], output: &mut [u8]) -> Result<u16, Refusal>
     ensures left { output.new
         ≡ move_output (check_to2 table.now) (in_version2 table.now) output.old }
 {
-    match check_from(1, table) {
-        Err(why) => Err(why),
-        Ok(()) => move_to_2(table, plan_count(table), output),
-    }
+    check_from(1, table)?;
+    move_to_2(table, plan_count(table), output)
 }
 
 // The same from version 2 to 1.
@@ -36,10 +34,8 @@ pub fn to_version_1(table: &[u8], output: &mut [u8]) -> Result<u16, Refusal>
     ensures left { output.new
         ≡ move_output (check_to1 table.now) (in_version1 table.now) output.old }
 {
-    match check_to_1(table) {
-        Err(why) => Err(why),
-        Ok(()) => move_to_1(table, plan_count(table), output),
-    }
+    check_to_1(table)?;
+    move_to_1(table, plan_count(table), output)
 }
 
 // Checks 1 and 2, and 3 of a table that is not of the version moved from.
@@ -62,26 +58,21 @@ fn version_check(from: u16, table: &[u8]) -> Result<(), Refusal>
 fn check_from(from: u16, table: &[u8]) -> Result<(), Refusal>
     ensures { result ≡ check_from table.now from }
 {
-    match version_check(from, table) {
-        Err(why) => Err(why),
-        Ok(()) => match check_table(table) {
-            Err(why) => Err(why),
-            Ok(_) => Ok(()),
-        },
-    }
+    version_check(from, table)?;
+    check_table(table)?;
+    Ok(())
 }
 
 // The checks of a table that is moved to version 1: 23 is the last.
 fn check_to_1(table: &[u8]) -> Result<(), Refusal>
     ensures { result ≡ check_to1 table.now }
 {
-    match check_from(2, table) {
-        Err(why) => Err(why),
-        Ok(()) => kinds_check(table),
-    }
+    check_from(2, table)?;
+    kinds_check(table)
 }
 
 // Check 23 of a table of version 2 that passes.
+#[tactic(auto, unfolding(rules::specs::Answers::refuse_if))]
 fn kinds_check(table: &[u8]) -> Result<(), Refusal>
     requires { HasNodes table.now (node_count table.now) }
     ensures { result ≡ refuse_if (other_kind table.now) Refusal.NodeKind }
@@ -97,14 +88,18 @@ fn has_other_kind(table: &[u8], k: usize) -> bool
     requires { HasNodes table.now k }
     ensures { result ≡ other_kind table.now }
 {
-    let mut i = 0;
-    while i < k {
-        if node_at(table, i).kind != 5 {
-            return true;
-        }
-        i += 1;
+    (0..k).any(|i| node_at(table, i).kind != 5)
+}
+
+// Check 24, of so many bytes.
+#[tactic(auto, unfolding(crate::specs::Versions::room_check, rules::specs::Answers::refuse_if))]
+fn room_check(size: usize, output: &[u8]) -> Result<(), Refusal>
+    ensures { (written : List ℕ) → size ≡ length written → result ≡ room_check written output.now }
+{
+    if output.len() < size {
+        return Err(Refusal::OutputShort);
     }
-    false
+    Ok(())
 }
 
 // Check 24, and the table of n plans in version 2.
@@ -114,9 +109,7 @@ fn move_to_2(table: &[u8], n: usize, output: &mut [u8]) -> Result<u16, Refusal>
     ensures left { output.new ≡ move_output Done (in_version2 table.now) output.old }
 {
     let nodes = count_nodes(table, n);
-    if output.len() < 10 + 8 * n + 4 * nodes {
-        return Err(Refusal::OutputShort);
-    }
+    room_check(10 + 8 * n + 4 * nodes, output)?;
     Ok(write_2(table, n, nodes, output) as u16)
 }
 
@@ -138,9 +131,7 @@ fn move_to_1(table: &[u8], n: usize, output: &mut [u8]) -> Result<u16, Refusal>
     ensures answer { result ≡ move_answer Done (in_version1 table.now) output.old }
     ensures left { output.new ≡ move_output Done (in_version1 table.now) output.old }
 {
-    if output.len() < 8 + 8 * n {
-        return Err(Refusal::OutputShort);
-    }
+    room_check(8 + 8 * n, output)?;
     Ok(write_1(table, n, output) as u16)
 }
 
@@ -158,19 +149,7 @@ fn count_nodes(table: &[u8], n: usize) -> usize
     requires { HasPlans table.now n }
     ensures { result ≡ nodes_before table.now n }
 {
-    let mut nodes = 0;
-    for p in 0..n {
-        nodes += own_nodes(table, p);
-    }
-    nodes
-}
-
-// The number of nodes of plan p's own: none of a leaf, else one.
-fn own_nodes(table: &[u8], p: usize) -> usize
-    requires { 8 * p + 16 ≤ length table.now }
-    ensures { (result ≡ cond (is_leaf table.now p) 0 1) × (result ≤ 1) }
-{
-    if is_leaf_at(table, p) { 0 } else { 1 }
+    (0..n).filter(|&p| !is_leaf_at(table, p)).count()
 }
 
 // Puts the header, with another version, at the start of the output.
@@ -179,8 +158,7 @@ fn put_header(version: u8, table: &[u8], output: &mut [u8]) -> usize
     ensures { Appended output.old 0 (header_as table.now version) output.new result }
 {
     let at = put(&table[0..3], output, 0);
-    let at = put_byte(version, output, at);
-    let at = put_byte(0, output, at);
+    let at = put(&[version, 0], output, at);
     put(&table[5..8], output, at)
 }
 
@@ -205,7 +183,8 @@ fn wait_as(table: &[u8], p: usize, wait: u8) -> u8
     }
 }
 
-// Puts the n plans behind the header, those with children with the numbers of their nodes.
+// Puts the n plans behind the header, those with children with the numbers of their nodes. It is not one function with `put_waiting`, by a
+// closure that gives byte 7: here the closure would keep the count, and the contract would have to follow its calls one by one.
 fn put_numbered(table: &[u8], n: usize, output: &mut [u8]) -> usize
     requires { HasPlans table.now n × (8 + 8 * n ≤ length output.old) }
     ensures { Appended output.old 8 (plans_as table.now (nodes_before table.now) n)
@@ -214,7 +193,7 @@ fn put_numbered(table: &[u8], n: usize, output: &mut [u8]) -> usize
     let mut nodes = 0;
     for p in 0..n {
         put_plan(table, p, nodes as u8, output);
-        nodes += own_nodes(table, p);
+        nodes += usize::from(!is_leaf_at(table, p));
     }
     8 + 8 * n
 }
@@ -236,7 +215,7 @@ fn number_waited(table: &[u8], n: usize, p: usize) -> u8
     requires { HasPlans table.now n × (p < n) }
     ensures { result ≡ number_waited table.now p }
 {
-    byte_at(table, 11 + 8 * n + 4 * (wait_at(table, p) as usize))
+    byte_at(table, 11 + 8 * n + 4 * usize::from(wait_at(table, p)))
 }
 
 // Puts the number of nodes, in two bytes.
@@ -244,8 +223,7 @@ fn put_count(nodes: usize, output: &mut [u8], at: usize) -> usize
     requires { (nodes < 65536) × (at + 2 ≤ length output.old) }
     ensures { Appended output.old at (nodes % 256 ∷ nodes / 256 ∷ []) output.new result }
 {
-    let at = put_byte((nodes % 256) as u8, output, at);
-    put_byte((nodes / 256) as u8, output, at)
+    put(&(nodes as u16).to_le_bytes(), output, at)
 }
 
 // Puts the nodes of the n plans there, in plan order.

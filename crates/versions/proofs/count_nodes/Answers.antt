@@ -1,24 +1,17 @@
--- `count_nodes` meets its contract: a turn counts one plan more. Assumes nothing.
-use Rattle.std.proofs.Common.{refl, arith}
-use Rattle.versions.specs.Versions.{nodes_before}
-use Rattle.versions.proofs.Laid.{nodes_within}
-use Rattle.versions.proofs.Turns.{next_count}
+-- `count_nodes` meets its contract: the plans that pass the filter are those with children. Assumes nothing.
+use Rattle.std.proofs.Common.{ℕ, ◌∙◌, rules, arith}
+use mathlib.Core.Bool.{not}
+use Rattle.std.proofs.lemmas.Iterator.{YieldsList-from_range}
+use Rattle.std.proofs.lemmas.Iterator.Consumers.{count_from_yields_List, YieldsList-from_filter}
+use Rattle.rules.specs.WaitFor.{is_leaf}
+use Rattle.versions.proofs.Turns.{counted}
 use Rattle.versions.proofs.count_nodes.Goals as goal
 
-pub loop-p-init : goal.loop-p-init
-unfolding nodes_before
-loop-p-init c = (omega arith, refl)
-
-pub overflow_add-nodes : goal.overflow_add-nodes
-overflow_add-nodes c =
-    omega (
-      arith,
-      c.loop-p.invariant.1,
-      nodes_within c.args.table.now c.loop-p.p,
-      c.requires.small,
-      c.own_nodes-nodes.ensures.1,
-    )
-
-pub loop-p-preserved : goal.loop-p-preserved
-loop-p-preserved c =
-    (omega arith, omega (arith, c.loop-p.invariant.1, c.own_nodes-nodes.ensures.0, next_count c.args.table.now c.loop-p.p))
+pub returns : goal.returns
+returns c =
+    let t = c.args.table.now in
+    let n = c.args.n in
+    count_from_yields_List c.filter.result _ c.count.ensures.ran
+    (YieldsList-from_filter _ (λ (p : ℕ). not (is_leaf t p)) (YieldsList-from_range 0 n n c.filter.ensures.source (omega arith))
+    c.filter.ensures.closure (λ x b q k. search rules))
+    ∙ counted t n

@@ -1,57 +1,53 @@
 -- `move_to_2` meets its contract: 24, or all is written. Assumes nothing.
-use Rattle.std.proofs.Common.{ap, arith}
+use Rattle.std.proofs.Common.{◌≡◌, ◌≤◌, ℕ, ◌+◌, ◌*◌, List, length, sym, ap, arith}
+use Rattle.std.proofs.lemmas.Result.{err_from_is_err_and}
+use Rattle.versions.specs.Room.{HasPlans}
 use Rattle.versions.specs.Versions.{nodes_before, in_version2}
 use Rattle.versions.proofs.Laid.{length_2, nodes_within}
-use Rattle.versions.proofs.Moves.{no_room, moved}
+use Rattle.versions.proofs.Moves.{no_room, has_room, moved}
 use Rattle.versions.proofs.move_to_2.Goals as goal
 
+-- how many bytes are to be written
+so_long : (t : List ℕ) (n nodes : ℕ) → HasPlans t n → nodes ≡ nodes_before t n → 10 + 8 * n + 4 * nodes ≡ length (in_version2 t)
+so_long t n nodes plans e =
+    omega (arith, length_2 t (omega (arith, plans.whole, plans.room)), plans.whole, ap (nodes_before t) plans.whole)
+
+few : (t : List ℕ) (n nodes : ℕ) → HasPlans t n → nodes ≡ nodes_before t n → nodes ≤ 256
+few t n nodes plans e = omega (arith, nodes_within t n, plans.small)
+
 pub overflow_mul-nodes : goal.overflow_mul-nodes
-overflow_mul-nodes c = omega (arith, c.count_nodes-nodes.ensures, nodes_within c.args.table.now c.args.n, c.requires.small)
+overflow_mul-nodes c = omega (arith, few _ _ _ c.requires c.count_nodes-nodes.ensures)
 
 pub overflow_add-n-2 : goal.overflow_add-n-2
-overflow_add-n-2 c = omega (arith, c.count_nodes-nodes.ensures, nodes_within c.args.table.now c.args.n, c.requires.small)
+overflow_add-n-2 c = omega (arith, few _ _ _ c.requires c.count_nodes-nodes.ensures, c.requires.small)
 
--- how many bytes are to be written
-pub returns-then-output-n-clause-answer : goal.returns-then-output-n-clause-answer
-returns-then-output-n-clause-answer c =
-    let t = c.args.table.now in
-    let size = length_2 t (omega (arith, c.requires.whole, c.requires.room)) in
-    (no_room _ c.args.output.now
-    (omega (arith, size, c.requires.whole, ap (nodes_before t) c.requires.whole, c.count_nodes-nodes.ensures, c.if-output-n.true))).0
+pub returns-in_err-room_check-clause-answer : goal.returns-in_err-room_check-clause-answer
+returns-in_err-room_check-clause-answer c =
+    let long = so_long _ _ _ c.requires c.count_nodes-nodes.ensures in
+    let p = err_from_is_err_and c.from_residual.result c.from_residual.ensures.1 in
+    rw (p.1, p.2) (no_room _ _ _ (sym (c.in_err-room_check.ensures _ long))).0
 
-pub returns-then-output-n-clause-left : goal.returns-then-output-n-clause-left
-returns-then-output-n-clause-left c =
-    let t = c.args.table.now in
-    let size = length_2 t (omega (arith, c.requires.whole, c.requires.room)) in
-    (no_room (in_version2 t) _
-    (omega (arith, size, c.requires.whole, ap (nodes_before t) c.requires.whole, c.count_nodes-nodes.ensures, c.if-output-n.true))).1
+pub returns-in_err-room_check-clause-left : goal.returns-in_err-room_check-clause-left
+returns-in_err-room_check-clause-left c =
+    let long = so_long _ _ _ c.requires c.count_nodes-nodes.ensures in
+    (no_room _ _ _ (sym (c.in_err-room_check.ensures _ long))).1
+
+pub write_2-requires-clause-room : goal.write_2-requires-clause-room
+write_2-requires-clause-room c =
+    let long = so_long _ _ _ c.requires c.count_nodes-nodes.ensures in
+    omega (arith, long, has_room _ _ (sym (c.in_ok-room_check.ensures _ long)))
 
 pub overflow_cast-result : goal.overflow_cast-result
 overflow_cast-result c =
-    let t = c.args.table.now in
-    let size = length_2 t (omega (arith, c.requires.whole, c.requires.room)) in
-    omega (
-      arith,
-      c.write_2.ensures.place,
-      size,
-      c.requires.whole,
-      ap (nodes_before t) c.requires.whole,
-      nodes_within t c.args.n,
-      c.requires.small,
-    )
+    let e = c.count_nodes-nodes.ensures in
+    omega (arith, c.write_2.ensures.place, so_long _ _ _ c.requires e, few _ _ _ c.requires e, c.requires.small)
 
 pub returns-clause-answer : goal.returns-clause-answer
 returns-clause-answer c =
-    let t = c.args.table.now in
-    let size = length_2 t (omega (arith, c.requires.whole, c.requires.room)) in
-    (moved _ _ _ _
-    (omega (arith, size, c.requires.whole, ap (nodes_before t) c.requires.whole, c.count_nodes-nodes.ensures, c.if-output-n.false))
-    c.write_2.ensures).0
+    let long = so_long _ _ _ c.requires c.count_nodes-nodes.ensures in
+    (moved _ _ _ _ (sym (c.in_ok-room_check.ensures _ long)) c.write_2.ensures).0
 
 pub returns-clause-left : goal.returns-clause-left
 returns-clause-left c =
-    let t = c.args.table.now in
-    let size = length_2 t (omega (arith, c.requires.whole, c.requires.room)) in
-    (moved _ _ _ _
-    (omega (arith, size, c.requires.whole, ap (nodes_before t) c.requires.whole, c.count_nodes-nodes.ensures, c.if-output-n.false))
-    c.write_2.ensures).1
+    let long = so_long _ _ _ c.requires c.count_nodes-nodes.ensures in
+    (moved _ _ _ _ (sym (c.in_ok-room_check.ensures _ long)) c.write_2.ensures).1

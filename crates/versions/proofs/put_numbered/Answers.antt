@@ -2,7 +2,7 @@
 use Rattle.std.proofs.Common.{refl, ◌∙◌, arith}
 use Rattle.versions.specs.Versions.{nodes_before}
 use Rattle.versions.proofs.Laid.{nodes_within}
-use Rattle.versions.proofs.Turns.{next_count, no_plans, next_plan}
+use Rattle.versions.proofs.Turns.{next_node_number, no_plans, next_plan}
 use Rattle.versions.proofs.put_numbered.Goals as goal
 
 pub loop-p-init : goal.loop-p-init
@@ -15,20 +15,17 @@ overflow_cast-nodes c = omega (arith, c.loop-p.invariant.2, nodes_within c.args.
 
 pub overflow_add-nodes : goal.overflow_add-nodes
 overflow_add-nodes c =
-    omega (
-      arith,
-      c.loop-p.invariant.2,
-      nodes_within c.args.table.now c.loop-p.p,
-      c.requires.0.small,
-      c.own_nodes-nodes.ensures.1,
-    )
+    let t = c.args.table.now in
+    let next = next_node_number t c.loop-p.p _ _ c.is_leaf_at.ensures c.from-nodes.ensures in
+    omega (arith, next.1, c.loop-p.invariant.2, nodes_within t c.loop-p.p, c.requires.0.small)
 
 pub loop-p-preserved : goal.loop-p-preserved
 loop-p-preserved c =
-    let table = c.args.table.now in (
+    let t = c.args.table.now in
+    let next = next_node_number t c.loop-p.p _ _ c.is_leaf_at.ensures c.from-nodes.ensures in (
       omega arith,
       c.put_plan-nodes.auto.output ∙ c.loop-p.invariant.1,
-      omega (arith, c.loop-p.invariant.2, c.own_nodes-nodes.ensures.0, next_count table c.loop-p.p),
-      next_plan _ (nodes_before table) _ _ _ (omega (arith, c.requires.0.room)) c.loop-p.invariant.2 c.loop-p.invariant.3
+      omega (arith, c.loop-p.invariant.2, next.0),
+      next_plan _ (nodes_before t) _ _ _ (omega (arith, c.requires.0.room)) c.loop-p.invariant.2 c.loop-p.invariant.3
           c.put_plan-nodes.ensures,
     )
