@@ -29,10 +29,16 @@ lowest_is f n (Some r) (l, found, before) = skip f n r (omega arith) before ∙ 
 pub lowest_once : (f : ℕ → Bool) (n : ℕ) (r r' : Option ℕ) → Lowest f n r → Lowest f n r' → r ≡ r'
 lowest_once f n r r' a b = sym (lowest_is f n r a) ∙ lowest_is f n r' b
 
--- a search by a test that says the same
+-- a search by a test that says the same of every number below n
+pub lowest_within :
+    (f g : ℕ → Bool) (n : ℕ) (r : Option ℕ) → ((k : ℕ) → k < n → f k ≡ g k) → Lowest f n r → Lowest g n r
+lowest_within f g n None same none = λ k l. sym (same k l) ∙ none k l
+lowest_within f g n (Some r) same (l, found, before) =
+    (l, sym (same r l) ∙ found, λ k m. sym (same k (omega (arith, l))) ∙ before k m)
+
+-- a search by a test that says the same of every number
 pub lowest_as : (f g : ℕ → Bool) (n : ℕ) (r : Option ℕ) → ((k : ℕ) → f k ≡ g k) → Lowest f n r → Lowest g n r
-lowest_as f g n None same none = λ k l. sym (same k) ∙ none k l
-lowest_as f g n (Some r) same (l, found, before) = (l, sym (same r) ∙ found, λ k m. sym (same k) ∙ before k m)
+lowest_as f g n r same found = lowest_within f g n r (λ k l. same k) found
 
 -- the lower of two answers
 abbrev pub lower : Option ℕ → Option ℕ → Option ℕ

@@ -1,5 +1,5 @@
 -- One step of a record: where it lies, a wrong word in it, and the picks that explain what it shows. Assumes nothing.
-use Rattle.std.specs.Prelude.{ℕ, zero, suc, ◌+◌, ◌*◌, ◌≤◌, ◌<◌, ◌≡◌, Bool, false, ◌||◌, List, eqb, length, get_or}
+use Rattle.std.specs.Prelude.{ℕ, ◌+◌, ◌*◌, ◌≤◌, ◌<◌, ◌≡◌, Bool, List, eqb, length, get_or}
 use Rattle.rules.specs.Table.{plan_count, entry, body_of}
 use Rattle.rules.specs.Words.{word, pick_of}
 use Rattle.children.specs.Sets.{Rooted, Narrow}
@@ -10,11 +10,6 @@ use Rattle.demands.specs.Witness.{witness}
 -- step i of a record r of n plans lies in it
 abbrev pub Lies : List ℕ → ℕ → ℕ → Type 0
 Lies r n i = 8 + i * (5 * n) + 5 * n ≤ length r
-
--- some number below n passes a test
-unfoldable pub any_below : (ℕ → Bool) → ℕ → Bool
-any_below f zero = false
-any_below f (suc n) = any_below f n || f n
 
 -- for each of the first n plans the bits that its words may not have, but for the pick's
 pub record Unused (t : List ℕ) (n : ℕ) (unused : List ℕ) : Type 0 where

@@ -2,7 +2,8 @@
 // if any do. Each function costs O(n) for n plans at most; nothing is copied. Assumes a record of good form and a table that passes.
 #![tactic(auto)]
 
-ghost use Rattle.std.specs.Prelude.{◌≡◌, List, ℕ, ◌+◌, ◌*◌, ◌≤◌, ◌<◌, length, take, replicate};
+ghost use Rattle.std.specs.Prelude.{◌≡◌, List, ℕ, ◌+◌, ◌*◌, ◌≤◌, ◌<◌, length, take, drop, replicate};
+ghost use Rattle.rules.specs.Lists.{some_below};
 ghost use Rattle.rules.specs.States.{code};
 ghost use Rattle.rules.specs.Table.{plan_count};
 ghost use Rattle.rules.specs.Record.{words_of, states_of, states_before};
@@ -10,20 +11,27 @@ ghost use Rattle.rules.specs.Answers.{bad_record_word};
 ghost use Rattle.rules.specs.declared.PlanState.TheVariants.{Inactive};
 ghost use Rattle.lowest.specs.Lowest.{Lowest};
 ghost use Rattle.children.specs.Sets.{Beyond};
-ghost use Rattle.parts.specs.OneStep.{Lies, any_below, Unused, wrong_at, Witnessed, Ordered};
+ghost use Rattle.parts.specs.OneStep.{Lies, Unused, wrong_at, Witnessed, Ordered};
 
 use lent::{unused_bits, wrong_word_if};
 use reading::{entry_at, parent_at, word_at};
 use rules::{Body, PlanState, pick_of};
+
+// Step i of a record of n plans: the words part, and behind it the states part.
+fn step_of(record: &[u8], n: usize, i: usize) -> &[u8]
+    requires { Lies «record».now n i }
+    ensures { result.now ≡ take (5 * n) (drop (8 + i * (5 * n)) «record».now) }
+{
+    let start = 8 + i * (5 * n);
+    &record[start..start + 5 * n]
+}
 
 // The words part of step i.
 pub fn words_of(record: &[u8], n: usize, i: usize) -> &[u8]
     requires { Lies «record».now n i }
     ensures { (t : List ℕ) → n ≡ plan_count t → result.now ≡ words_of t «record».now i }
 {
-    let start = 8 + i * (5 * n);
-    let end = start + 4 * n;
-    &record[start..end]
+    &step_of(record, n, i)[..4 * n]
 }
 
 // The states part of step i.
@@ -31,9 +39,7 @@ pub fn states_of(record: &[u8], n: usize, i: usize) -> &[u8]
     requires { Lies «record».now n i }
     ensures { (t : List ℕ) → n ≡ plan_count t → result.now ≡ states_of t «record».now i }
 {
-    let start = 8 + i * (5 * n) + 4 * n;
-    let end = start + n;
-    &record[start..end]
+    &step_of(record, n, i)[4 * n..]
 }
 
 // The states before step i: those that the step before shows; before the first, the idle ones.
@@ -42,7 +48,7 @@ pub fn states_before<'a>(idle: &'a [u8], record: &'a [u8], n: usize, i: usize) -
     ensures { (t : List ℕ) → n ≡ plan_count t → result.now ≡ states_before t «record».now i }
 {
     if i == 0 {
-        return &idle[0..n];
+        return &idle[..n];
     }
     states_of(record, n, i - 1)
 }
@@ -58,22 +64,15 @@ pub fn find_unused(table: &[u8], n: usize, unused: &mut [u32])
     }
 }
 
-// Check 12: the lowest plan with a wrong word, or n.
-pub fn lowest_wrong_word(table: &[u8], unused: &[u32], words: &[u8], n: usize) -> usize
+// Check 12: the lowest plan with a wrong word. In nearly every step there is none, which is asked first, of all words at once.
+pub fn lowest_wrong_word(table: &[u8], unused: &[u32], words: &[u8], n: usize) -> Option<usize>
     requires { Unused table.now n unused.now × (4 * n ≤ length words.now) }
     ensures { Lowest (bad_record_word table.now words.now) n result }
 {
     if !any_wrong_word(unused, words, n) {
-        return n;
+        return None;
     }
-    let mut p = 0;
-    while p < n {
-        if wrong_word(unused, words, p) {
-            return p;
-        }
-        p += 1;
-    }
-    p
+    (0..n).find(|&p| wrong_word(unused, words, p))
 }
 
 // The picks that explain the states shown, if any do: of each any-order plan the rank of its lowest Ready child that is shown Activated,
@@ -102,7 +101,7 @@ pub fn find_picks(
             continue;
         }
         let q = parent_at(table, p);
-        let any_order = (entry_at(table, q).body_kind() == Body::AnyOrder);
+        let any_order = entry_at(table, q).body_kind() == Body::AnyOrder;
         if (kept[q] == PlanState::ACTIVATED) | !any_order {
             continue;
         }
@@ -120,15 +119,16 @@ fn wrong_word(unused: &[u32], words: &[u8], p: usize) -> bool
     wrong_word_if(x, unused[p], pick_of(x) == 0)
 }
 
-// Check 12: whether one of the first n words is wrong. It has no branch, so that the compiler can look at several words at once: in
-// nearly every step all words are right.
+// Check 12: whether one of the first n words is wrong. It has no branch, so that the compiler can look at several words at once: so no
+// `any`, which stops at the first wrong word.
+#[tactic(auto, unfolding(rules::specs::Lists::some_below))]
 fn any_wrong_word(unused: &[u32], words: &[u8], n: usize) -> bool
     requires { (n ≤ length unused.now) × (4 * n ≤ length words.now) }
-    ensures { result ≡ any_below (wrong_at unused.now words.now) n }
+    ensures { result ≡ some_below (wrong_at unused.now words.now) n }
 {
     let mut bad = false;
     for p in 0..n {
-        bad = bad | wrong_word(unused, words, p);
+        bad |= wrong_word(unused, words, p);
     }
     bad
 }

@@ -8,6 +8,7 @@ use Rattle.rules.specs.States.{code}
 use Rattle.rules.specs.Table.{body_of, is_body}
 use Rattle.rules.specs.declared.Body.TheVariants.{AnyOrder}
 use Rattle.rules.specs.declared.PlanState.TheVariants.{Activated}
+use Rattle.rules.proofs.Derived.{same_body}
 use Rattle.parts.proofs.Picks.{finding_root, finding_past, pick_turn, all_found}
 use Rattle.parts.proofs.find_picks.Goals as goal
 
@@ -39,7 +40,7 @@ loop-p-preserved-then-kept-q c =
     _
     (c.requires.table.narrow.ranked p c.loop-p-test.true)
     _
-    (ap (λ (b : Bool). eqb (byte_at (set kept p 0) q) (code Activated) || not b) (c.is-any_order.ensures ∙ ap (is_body AnyOrder) body))
+    (ap (λ (b : Bool). eqb (byte_at (set kept p 0) q) (code Activated) || not b) (c.eq-any_order.ensures ∙ same_body _ AnyOrder ∙ ap (is_body AnyOrder) body))
     in
     turn.keeps c.if-kept-q.true
 
@@ -59,7 +60,7 @@ loop-p-preserved c =
     _
     (c.requires.table.narrow.ranked p c.loop-p-test.true)
     _
-    (ap (λ (b : Bool). eqb (byte_at (set kept p 0) q) (code Activated) || not b) (c.is-any_order.ensures ∙ ap (is_body AnyOrder) body))
+    (ap (λ (b : Bool). eqb (byte_at (set kept p 0) q) (code Activated) || not b) (c.eq-any_order.ensures ∙ same_body _ AnyOrder ∙ ap (is_body AnyOrder) body))
     in
     turn.takes c.if-kept-q.false
 
