@@ -14,7 +14,7 @@ use Rattle.rules.proofs.Below.{some_either}
 use Rattle.rules.proofs.Outcomes.{pass, stop, then_next, then_stops}
 use Rattle.demands.specs.Bound.{most_steps, nobody_retries, both_hold, nobody_holds_both, premises, bound_check, bound_answer}
 use Rattle.bound.specs.Asked.{breaks_premise}
-use Rattle.std.specs.Prelude.{Ok, Err, Some, None}
+use Rattle.std.specs.Prelude.{Option, Ok, Err, Some, None}
 
 neither : (a b : Bool) → not (a || b) ≡ (not a && not b)
 neither true b = refl
@@ -22,13 +22,13 @@ neither false b = refl
 
 module _ (t w : List ℕ) where
   -- the figure, or none
-  abbrev told : Figure
-  told = cond (premises t w) (Ok (Some (most_steps (plan_count t)))) (Ok None)
+  abbrev told : Option ℕ
+  told = cond (premises t w) (Some (most_steps (plan_count t))) None
 
-  pub told_figure : (k : ℕ) → k ≡ most_steps (plan_count t) → premises t w ≡ true → Ok (Some k) ≡ told
+  pub told_figure : (k : ℕ) → k ≡ most_steps (plan_count t) → premises t w ≡ true → Some k ≡ told
   told_figure k is kept = rw (kept, is) refl
 
-  pub told_none : premises t w ≡ false → (Ok None) ≡ told
+  pub told_none : premises t w ≡ false → None ≡ told
   told_none broken = rw broken refl
 
   refused : (why : Refusal) → bound_check t w ≡ Err why → bound_answer t w ≡ Err why
@@ -52,9 +52,16 @@ module _ (t w : List ℕ) where
       pub words_refused : (why : Refusal) → call_words_check t w ≡ Err why → bound_answer t w ≡ Err why
       words_refused why e = refused why (words_left ∙ e)
 
-      pub figure_told : call_words_check t w ≡ Done → bound_answer t w ≡ told
+      pub figure_told : call_words_check t w ≡ Done → bound_answer t w ≡ Ok told
       unfolding bound_answer
-      figure_told e = rw (words_left ∙ e, bound_answer)
+      figure_told e = rw (words_left ∙ e, bound_answer) (either (premises t w))
+        where
+          most : ℕ
+          most = most_steps (plan_count t)
+
+          either : (b : Bool) → ◌≡◌ {A = Figure} (cond b (Ok (Some most)) (Ok None)) (Ok (cond b (Some most) None))
+          either true = refl
+          either false = refl
 
   -- both premises by one search
   pub premises_are : (n : ℕ) → n ≡ plan_count t → premises t w ≡ not (some_below (breaks_premise t w) n)

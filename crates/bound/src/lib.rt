@@ -2,11 +2,10 @@
 // node of the table; nothing is allocated. Assumes nothing.
 #![tactic(auto)]
 
-ghost use Rattle.std.specs.Prelude.{ℕ, ◌≡◌, cond, ◌&&◌, ◌||◌};
+ghost use Rattle.std.specs.Prelude.{ℕ, ◌≡◌, cond, ◌&&◌, ◌||◌, Ok, Some, None};
 ghost use Rattle.rules.specs.Lists.{some_below};
 ghost use Rattle.rules.specs.Table.{plan_count, retry_aborted};
 ghost use Rattle.rules.specs.Words.{holds};
-ghost use Rattle.rules.specs.declared.Figure.TheVariants as is;
 ghost use Rattle.rules.specs.declared.Condition.TheVariants.{Suspend, Reactivate};
 ghost use Rattle.lent.specs.Calls.{Tabled};
 ghost use Rattle.demands.specs.Bound.{most_steps, premises, RestsWithin, bound_answer};
@@ -21,15 +20,13 @@ use table::read_table;
 // figure is known; or a refusal of the table or the words.
 pub fn bound(table: &[u8], words: &[u8]) -> Result<Option<u16>, Refusal>
     ensures answer { result ≡ bound_answer table.now words.now }
-    ensures promise { (k : ℕ) → result ≡ is.Within k → RestsWithin table.now words.now k }
+    ensures promise { (k : ℕ) → result ≡ Ok (Some k) → RestsWithin table.now words.now k }
 {
     let mut ranks = [0u8; 256];
     let mut counts = [0u8; 256];
     let mut names = [0u64; 512];
-    match read_table(table, &mut ranks, &mut counts, &mut names) {
-        Err(why) => Err(why),
-        Ok(()) => bound_under(table, &counts, words),
-    }
+    read_table(table, &mut ranks, &mut counts, &mut names)?;
+    bound_under(table, &counts, words)
 }
 
 // The answer, of a table that passes, with its numbers of children.
@@ -41,22 +38,20 @@ fn bound_under(table: &[u8], counts: &[u8], words: &[u8]) -> Result<Option<u16>,
     if words.len() != 4 * n {
         return Err(Refusal::Lengths);
     }
-    match check_words(table, n, counts, words) {
-        Err(why) => Err(why),
-        Ok(()) => figure(table, n, words),
-    }
+    check_words(table, n, counts, words)?;
+    Ok(figure(table, n, words))
 }
 
-// The answer, of words that pass too.
-fn figure(table: &[u8], n: usize, words: &[u8]) -> Result<Option<u16>, Refusal>
+// The figure, of words that pass too, where the premises hold.
+fn figure(table: &[u8], n: usize, words: &[u8]) -> Option<u16>
     requires { Asked table.now n words.now }
     ensures { result ≡ cond (premises table.now words.now)
-        (is.Within (most_steps (plan_count table.now))) is.Unknown }
+        (Some (most_steps (plan_count table.now))) None }
 {
     if some_break(table, n, words) {
-        return Ok(None);
+        return None;
     }
-    Figure::Within(6 * n as u16)
+    Some(6 * n as u16)
 }
 
 // Whether some plan breaks a premise.
@@ -64,19 +59,12 @@ fn some_break(table: &[u8], n: usize, words: &[u8]) -> bool
     requires { Asked table.now n words.now }
     ensures { result ≡ some_below (breaks_premise table.now words.now) n }
 {
-    let mut p = 0;
-    while p < n {
-        if breaks(entry_at(table, p), word_at(words, p)) {
-            return true;
-        }
-        p += 1;
-    }
-    false
+    (0..n).any(|p| breaks(entry_at(table, p), word_at(words, p)))
 }
 
 // Whether a plan with this entry and word breaks a premise: it has retry-aborted, or its suspend and its reactivate both hold.
 fn breaks(e: PlanEntry, x: u32) -> bool
     ensures { result ≡ (retry_aborted e || holds Suspend e x && holds Reactivate e x) }
 {
-    e.retries_aborted() | (e.holds(Condition::Suspend, x) & e.holds(Condition::Reactivate, x))
+    e.retries_aborted() || e.holds(Condition::Suspend, x) && e.holds(Condition::Reactivate, x)
 }

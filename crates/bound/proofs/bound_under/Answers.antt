@@ -1,5 +1,7 @@
 -- `bound_under` meets its contract: where each check of the words stops, and the figure behind them. Assumes nothing.
-use Rattle.std.proofs.Common.{sym, ◌∙◌, arith}
+use Rattle.std.proofs.Common.{sym, ap, ◌∙◌, arith}
+use Rattle.std.specs.Prelude.{Ok}
+use Rattle.std.proofs.lemmas.Result.{err_from_is_err_and}
 use Rattle.rules.proofs.Tree.{passes, tree}
 use Rattle.lent.proofs.Calls.{rooted, counted}
 use Rattle.bound.proofs.Answers.{length_refused, words_refused, figure_told}
@@ -17,6 +19,12 @@ returns-then-words-n c = sym (length_refused _ _ c.requires.done _ c.plan_count-
 pub check_words-requires : goal.check_words-requires
 check_words-requires c = counted _ _ _ c.requires _ c.plan_count-n.ensures c.if-words-n.false
 
+pub returns-in_err-check_words : goal.returns-in_err-check_words
+returns-in_err-check_words c =
+    let p = err_from_is_err_and c.from_residual.result c.from_residual.ensures.1 in
+    rw (p.1, p.2)
+    (sym (words_refused _ _ c.requires.done _ c.plan_count-n.ensures c.if-words-n.false _ (sym c.in_err-check_words.ensures)))
+
 pub figure-requires : goal.figure-requires
 figure-requires c =
     let shape = rooted _ c.requires.done _ c.plan_count-n.ensures in
@@ -27,15 +35,7 @@ figure-requires c =
       words_room = omega (arith, c.if-words-n.false);
     }
 
-pub returns-in-Refused : goal.returns-in-Refused
-returns-in-Refused c =
-    sym
-    (words_refused _ _ c.requires.done _ c.plan_count-n.ensures c.if-words-n.false _
-    (sym c.check_words.ensures ∙ c.in-Refused.is))
-
-pub returns-in-Done : goal.returns-in-Done
-returns-in-Done c =
-    c.figure.ensures
-    ∙ sym
-    (figure_told _ _ c.requires.done _ c.plan_count-n.ensures c.if-words-n.false
-    (sym c.check_words.ensures ∙ c.in-Done.is))
+pub returns : goal.returns
+returns c =
+    ap Ok c.figure.ensures
+    ∙ sym (figure_told _ _ c.requires.done _ c.plan_count-n.ensures c.if-words-n.false (sym c.in_ok-check_words.ensures))
