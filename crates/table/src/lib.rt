@@ -26,7 +26,7 @@ pub fn has_mark(s: &[u8], letter: u8) -> bool
     requires { 3 ≤ length s.now }
     ensures { result ≡ same (take 3 s.now) (65 ∷ 80 ∷ letter ∷ []) }
 {
-    (s[0] == b'A') & (s[1] == b'P') & (s[2] == letter)
+    s[..3] == [b'A', b'P', letter]
 }
 
 // Checks 1 to 4.
@@ -186,80 +186,83 @@ fn unfit_entry(p: usize, count: u8, e: PlanEntry) -> bool
     unfit
 }
 
-// The lowest plan that check 7 refuses.
-fn lowest_undefined(table: &[u8], n: usize, counts: &[u8], names: &[u64]) -> Option<usize>
-    requires { Known table.now n counts.now names.now }
-    ensures { Lowest (undefined_byte table.now) n result }
-{
-    (0..n).find(|&p| is_undefined(table, n, counts, names, p))
+// The plans of a table that has passed checks 1 to 6, with their numbers of children and their words of named children.
+#[derive(Clone, Copy)]
+struct Plans<'a> {
+    table: &'a [u8],
+    n: usize,
+    counts: &'a [u8],
+    names: &'a [u64],
+    ghost known: { Known table.now n counts.now names.now },
 }
 
-// Whether it refuses plan p.
-fn is_undefined(table: &[u8], n: usize, counts: &[u8], names: &[u64], p: usize) -> bool
-    requires { Known table.now n counts.now names.now × (p < n) }
-    ensures { result ≡ undefined_byte table.now p }
-{
-    undefined_entry(entry_at(table, p))
-}
-
-// The lowest plan that check 8 refuses.
-fn lowest_unfit(table: &[u8], n: usize, counts: &[u8], names: &[u64]) -> Option<usize>
-    requires { Known table.now n counts.now names.now }
-    ensures { Lowest (unfit table.now) n result }
-{
-    (0..n).find(|&p| is_unfit(table, n, counts, names, p))
-}
-
-// Whether it refuses plan p.
-fn is_unfit(table: &[u8], n: usize, counts: &[u8], names: &[u64], p: usize) -> bool
-    requires { Known table.now n counts.now names.now × (p < n) }
-    ensures { result ≡ unfit table.now p }
-{
-    unfit_entry(p, counts[p], entry_at(table, p))
-}
-
-// The lowest plan whose wait number is above its number of named children.
-fn lowest_asking(table: &[u8], n: usize, counts: &[u8], names: &[u64]) -> Option<usize>
-    requires { Known table.now n counts.now names.now }
-    ensures { Lowest (λ p. too_many table.now p (entry table.now p).wait) n result }
-{
-    (0..n).find(|&p| asks_too_many(table, n, counts, names, p))
-}
-
-// Whether that of plan p is.
-fn asks_too_many(table: &[u8], n: usize, counts: &[u8], names: &[u64], p: usize) -> bool
-    requires { Known table.now n counts.now names.now × (p < n) }
-    ensures { result ≡ too_many table.now p (entry table.now p).wait }
-{
-    !entry_at(table, p).wait_for(names[p])
-}
-
-// Checks 7, 8, 22 and 9.
-fn plans_check(table: &[u8], n: usize, counts: &[u8], names: &[u64]) -> Result<(), Refusal>
-    requires { Known table.now n counts.now names.now }
-    ensures { result ≡ plans_check table.now }
-{
-    if let Some(plan) = lowest_undefined(table, n, counts, names) {
-        return Err(Refusal::Undefined { plan: plan as u16 });
+impl<'a> Plans<'a> {
+    // Checks 7, 8, 22 and 9.
+    fn check(&self) -> Result<(), Refusal>
+        ensures { result ≡ plans_check self.now.table.now }
+    {
+        if let Some(plan) = self.lowest_undefined() {
+            return Err(Refusal::Undefined { plan: plan as u16 });
+        }
+        if let Some(plan) = self.lowest_unfit() {
+            return Err(Refusal::Unfit { plan: plan as u16 });
+        }
+        self.check_waits()
     }
-    if let Some(plan) = lowest_unfit(table, n, counts, names) {
-        return Err(Refusal::Unfit { plan: plan as u16 });
-    }
-    waits_check(table, n, counts, names)
-}
 
-// Check 9 of a table of version 1, checks 22 and 9 of one of version 2.
-fn waits_check(table: &[u8], n: usize, counts: &[u8], names: &[u64]) -> Result<(), Refusal>
-    requires { Known table.now n counts.now names.now }
-    ensures { result ≡ waits_check table.now }
-{
-    if !is_first_version(table) {
-        return check_formulas(table, n, counts, names);
+    // Check 9 of a table of version 1, checks 22 and 9 of one of version 2.
+    fn check_waits(&self) -> Result<(), Refusal>
+        ensures { result ≡ waits_check self.now.table.now }
+    {
+        if !is_first_version(self.table) {
+            return check_formulas(self.table, self.n, self.counts, self.names);
+        }
+        if let Some(plan) = self.lowest_asking() {
+            return Err(Refusal::Wait { plan: plan as u16 });
+        }
+        Ok(())
     }
-    if let Some(plan) = lowest_asking(table, n, counts, names) {
-        return Err(Refusal::Wait { plan: plan as u16 });
+
+    // The lowest plan that check 7 refuses, that check 8 refuses, and whose wait number check 9 refuses.
+    fn lowest_undefined(&self) -> Option<usize>
+        ensures { Lowest (undefined_byte self.now.table.now) self.now.n result }
+    {
+        (0..self.n).find(|&p| self.is_undefined(p))
     }
-    Ok(())
+
+    fn lowest_unfit(&self) -> Option<usize>
+        ensures { Lowest (unfit self.now.table.now) self.now.n result }
+    {
+        (0..self.n).find(|&p| self.is_unfit(p))
+    }
+
+    fn lowest_asking(&self) -> Option<usize>
+        ensures { Lowest (λ p. too_many self.now.table.now p (entry self.now.table.now p).wait) self.now.n result }
+    {
+        (0..self.n).find(|&p| self.asks_too_many(p))
+    }
+
+    // Whether check 7 refuses plan p, check 8 does, and check 9 refuses its wait number.
+    fn is_undefined(&self, p: usize) -> bool
+        requires { p < self.now.n }
+        ensures { result ≡ undefined_byte self.now.table.now p }
+    {
+        undefined_entry(entry_at(self.table, p))
+    }
+
+    fn is_unfit(&self, p: usize) -> bool
+        requires { p < self.now.n }
+        ensures { result ≡ unfit self.now.table.now p }
+    {
+        unfit_entry(p, self.counts[p], entry_at(self.table, p))
+    }
+
+    fn asks_too_many(&self, p: usize) -> bool
+        requires { p < self.now.n }
+        ensures { result ≡ too_many self.now.table.now p (entry self.now.table.now p).wait }
+    {
+        !entry_at(self.table, p).wait_for(self.names[p])
+    }
 }
 
 // Checks 7, 8, 22 and 9, and of plans that pass the numbers of children that they wait for.
@@ -269,7 +272,13 @@ fn check_and_number(table: &[u8], n: usize, counts: &[u8], names: &mut [u64]) ->
     ensures is { result ≡ plans_check table.now }
     ensures numbered { result ≡ Done → Numbered table.now n n names.old names.new }
 {
-    plans_check(table, n, counts, names)?;
+    let plans = Plans {
+        table,
+        n,
+        counts,
+        names,
+    };
+    plans.check()?;
     find_numbers(table, n, names);
     Ok(())
 }

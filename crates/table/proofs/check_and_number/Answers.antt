@@ -8,6 +8,5 @@ pub find_numbers-requires : goal.find_numbers-requires
 find_numbers-requires c =
     let known = c.requires.known in
     let t = c.args.table.now in
-    let a = c.in_ok-plans_check.was in
-    let passed = sym c.plans_check.ensures ∙ c.in_ok-plans_check.was in
+    let passed = sym c.check.ensures ∙ c.in_ok-check.was in
     (waiting t _ known.whole known.small known.long (formulas_done t passed), c.requires.room)

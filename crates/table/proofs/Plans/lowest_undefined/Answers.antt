@@ -1,7 +1,7 @@
--- `lowest_unfit` meets its contract: its closure computes the test. Assumes nothing.
+-- `Plans::lowest_undefined` meets its contract: its closure computes the test. Assumes nothing.
 use Rattle.std.proofs.Common.{rules}
 use Rattle.lowest.proofs.Ranges.{lowest_from_find}
-use Rattle.table.proofs.lowest_unfit.Goals as goal
+use Rattle.table.proofs.Plans.lowest_undefined.Goals as goal
 
 pub returns : goal.returns
 returns c = lowest_from_find _ _ _ _ _ c.find.ensures.ran (λ x b q k. search rules)
