@@ -13,7 +13,7 @@ ghost use Rattle.lent.specs.BodyRule.{stands_alone, breaks_by};
 ghost use Rattle.lent.specs.WordBits.{unused_bits, wrong_bits};
 ghost use Rattle.lent.specs.Calls.{Planned, Counted, Tabled, Called};
 
-use reading::{entry_at, parent_at, u16_at, word_at};
+use reading::{entry_at, parent_at, plan_count, word_at};
 use rules::{Body, PlanEntry, PlanState, Refusal, is_rule, pick_of};
 use table::read_table;
 
@@ -83,7 +83,7 @@ fn check_lent(
     requires { Tabled table.now counts.now }
     ensures { result ≡ lent_check table.now states.now words.now causes.now }
 {
-    let n = usize::from(u16_at(table, 5));
+    let n = plan_count(table);
     if (states.len() != n) | (words.len() != 4 * n) | (causes.len() != n) {
         return Err(Refusal::Lengths);
     }

@@ -1,5 +1,5 @@
 -- `check_call` meets its contract: the rule number's check, then the table's, then those of what is lent with it. Assumes nothing.
-use Rattle.std.proofs.Common.{sym, ap, ◌∙◌, not, arith}
+use Rattle.std.proofs.Common.{◌≡◌, Err, rules, sym, ap, ◌∙◌, not, arith}
 use Rattle.rules.proofs.Outcomes.{rule_stops, rule_passes}
 use Rattle.rules.proofs.Tree.{passes}
 use Rattle.lent.proofs.Calls.{call_unruled, call_refused, call_lent}
@@ -10,8 +10,9 @@ returns-then-not-is_rule c = call_unruled _ _ _ _ _ _ _ _ _ (rule_stops _ c.is_r
 
 pub returns-in_err-read_table : goal.returns-in_err-read_table
 returns-in_err-read_table c =
+    let is : c.from_residual.result ≡ Err c.in_err-read_table.field-0.0 = search rules in
     let ruled = rule_passes _ c.is_rule.ensures (ap not c.if-not-is_rule.false) in
-    call_refused _ _ _ _ _ _ _ _ ruled _ (sym c.read_table.ensures.is ∙ c.in_err-read_table.was)
+    rw is (call_refused _ _ _ _ _ _ _ _ ruled _ (sym c.read_table.ensures.is ∙ c.in_err-read_table.was))
 
 pub check_lent-requires : goal.check_lent-requires
 check_lent-requires c =

@@ -4,4 +4,3 @@ use Rattle.lent.proofs.lowest_bad_state.Given as goal
 
 abbrev pub invariant-loop-p : goal.invariant-loop-p
 invariant-loop-p l = Marking l.table l.states l.n l.p l.alone l.shut
-
