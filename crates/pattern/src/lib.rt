@@ -2,12 +2,12 @@
 // over the samples; nothing is allocated. Numbers come in two's complement, and any are taken. Assumes nothing.
 #![tactic(auto)]
 
-ghost use Rattle.std.specs.Prelude.{◌≡◌, ◌+◌, ◌*◌, ◌%◌, ◌^◌, ◌≤◌, true, length};
+ghost use Rattle.std.specs.Prelude.{◌≡◌, ◌+◌, ◌%◌, ◌^◌, ◌≤◌, true, length};
 ghost use Rattle.time.specs.Annotations.{base, counted, bound_of, annotation_of, in_range, bound_in_range, annotation_in_range};
-ghost use Rattle.time.specs.Patterns.{every, minute_at, in_order, samples_check, pattern_check, Judged};
+ghost use Rattle.time.specs.Patterns.{every, minute_at, in_order, samples_check, Judged};
 ghost use Rattle.time.specs.Normal.{larger, smaller, minus, plus, larger_number, normal, plain, number_of, numbers_of, Normalised};
-ghost use Rattle.time.specs.Search.{placed, window, admitted, over, next, is_found, pass_to, finish, goes_on, starts_from};
-ghost use Rattle.time.specs.Search.{can_be, answer, judgement_of};
+ghost use Rattle.time.specs.Search.{placed, window, admitted, over, next, pass_to, finish, goes_on, starts_from};
+ghost use Rattle.time.specs.Search.{can_be, answer};
 ghost use Rattle.time.specs.Search.{Small, Named, Worked, SmallWindow, NamedPass, Near, NearBound, NearAll};
 
 use rules::Refusal;
@@ -36,18 +36,12 @@ pub fn judge(numbers: &[u64; 7], samples: &[u64], minute: u64) -> Result<Judgeme
 {
     let a = annotation(numbers);
     let asked = counted(minute);
-    check(a, samples, asked)?;
-    Ok(judged(a, samples, asked))
-}
-
-// The answer where nothing is refused.
-#[tactic(auto, unfolding(time::specs::Search::judgement_of))]
-fn judged(a: Annotation, samples: &[u64], asked: u64) -> Judgement
-    requires { NearAll a × (asked ≤ 5000000000) }
-    ensures { result ≡ judgement_of a samples.now asked }
-{
-    let w = window(a, a.reference);
-    answer(w, passed(w, samples), asked)
+    if !(annotation_in_range(a) & in_range(asked)) {
+        return Err(Refusal::ValueRange);
+    }
+    let history = History { samples, asked };
+    history.check()?;
+    Ok(Bounds::of(a, a.reference).answer(history))
 }
 
 // Puts the normal form of an annotation in its place, or refuses with 18, 21 or 26 and changes nothing.
@@ -59,7 +53,7 @@ pub fn normalise(numbers: &mut [u64; 7]) -> Result<(), Refusal>
         return Err(Refusal::ValueRange);
     }
     // a run that may start before all bounds
-    if !starts_from(window(a, BASE), 0) {
+    if !Bounds::of(a, BASE).starts_from(0) {
         return Err(Refusal::NoInterval);
     }
     let n = normal(a);
@@ -136,71 +130,70 @@ fn annotation_in_range(a: Annotation) -> bool
         & in_range(a.reference)
 }
 
-// Whether the samples' minutes rise strictly, and the last is not after the minute of asking.
-fn in_order(samples: &[u64], asked: u64) -> bool
-    requires { asked ≤ 5000000000 }
-    ensures { result ≡ in_order samples.now asked }
-{
-    let mut until = asked + 1;
-    for &x in samples.iter().rev() {
-        let t = sample(x) / 2;
-        if until <= t {
-            return false;
+// A history: the samples, and the minute of asking, which is in range.
+#[derive(Clone, Copy)]
+struct History<'a> {
+    samples: &'a [u64],
+    asked: u64,
+    ghost early: { asked ≤ 5000000000 },
+}
+
+impl History<'_> {
+    // Whether the samples' minutes rise strictly, and the last is not after the minute of asking.
+    fn is_in_order(self) -> bool
+        ensures { result ≡ in_order self.entry.samples.now self.entry.asked }
+    {
+        // `is_sorted_by` works each minute out twice, and was slower: 2.7 ns a sample for 1.8
+        let mut until = self.asked + 1;
+        for &x in self.samples.iter().rev() {
+            let t = sample(x) / 2;
+            if until <= t {
+                return false;
+            }
+            until = t;
         }
-        until = t;
+        true
     }
-    true
-}
 
-// Whether every sample's minute is in range.
-fn samples_in_range(samples: &[u64]) -> bool
-    ensures { result ≡ every (λ i. in_range (minute_at samples.now i)) (length samples.now) }
-{
-    samples.iter().all(|&x| in_range(sample(x) / 2))
-}
+    // Whether every sample's minute is in range.
+    fn is_in_range(self) -> bool
+        ensures { result
+            ≡ every (λ i. in_range (minute_at self.entry.samples.now i)) (length self.entry.samples.now) }
+    {
+        self.samples.iter().all(|&x| in_range(sample(x) / 2))
+    }
 
-// The same of samples in order, whose first minute tells it: they end by the minute of asking.
-#[tactic(auto, using(time::proofs::Histories::first_tells), unfolding(time::specs::Patterns::every))]
-fn ordered_in_range(samples: &[u64], asked: u64) -> bool
-    requires { (in_order samples.now asked ≡ true) × (asked ≤ 5000000000) }
-    ensures { result ≡ every (λ i. in_range (minute_at samples.now i)) (length samples.now) }
-{
-    samples.first().is_none_or(|&x| FIRST <= sample(x) / 2)
-}
+    // The same of samples in order, whose first minute tells it: they end by the minute of asking.
+    fn starts_in_range(self) -> bool
+        requires { in_order self.samples.now self.asked ≡ true }
+        ensures { result
+            ≡ every (λ i. in_range (minute_at self.entry.samples.now i)) (length self.entry.samples.now) }
+    {
+        self.samples.first().is_none_or(|&x| FIRST <= sample(x) / 2)
+    }
 
-// Checks 18 to 20 of the samples. Where they are in order, one minute tells 18; where they are not, all must be looked at.
-#[tactic(auto, using(time::proofs::Histories::refuses_range, time::proofs::Histories::refuses_many, time::proofs::Histories::refuses_order, time::proofs::Histories::passes))]
-fn check_samples(samples: &[u64], asked: u64) -> Result<(), Refusal>
-    requires { asked ≤ 5000000000 }
-    ensures { result ≡ samples_check samples.now asked }
-{
-    let ordered = in_order(samples, asked);
-    let ranged = if ordered {
-        ordered_in_range(samples, asked)
-    } else {
-        samples_in_range(samples)
-    };
-    if !ranged {
-        return Err(Refusal::ValueRange);
+    // Checks 18 to 20. Where the samples are in order, one minute tells 18; where they are not, all must be looked at.
+    #[tactic(auto, using(time::proofs::Histories::checks))]
+    fn check(self) -> Result<(), Refusal>
+        ensures { result ≡ samples_check self.entry.samples.now self.entry.asked }
+    {
+        let ordered = self.is_in_order();
+        let ranged = if ordered {
+            self.starts_in_range()
+        } else {
+            self.is_in_range()
+        };
+        if !ranged {
+            return Err(Refusal::ValueRange);
+        }
+        if MOST < self.samples.len() {
+            return Err(Refusal::ManySamples);
+        }
+        if !ordered {
+            return Err(Refusal::TimesOrder);
+        }
+        Ok(())
     }
-    if MOST < samples.len() {
-        return Err(Refusal::ManySamples);
-    }
-    if !ordered {
-        return Err(Refusal::TimesOrder);
-    }
-    Ok(())
-}
-
-// Checks 18 to 20.
-#[tactic(auto, using(time::proofs::Histories::refuses_first, time::proofs::Histories::passes_first))]
-fn check(a: Annotation, samples: &[u64], asked: u64) -> Result<(), Refusal>
-    ensures { result ≡ pattern_check a samples.now asked }
-{
-    if !(annotation_in_range(a) & in_range(asked)) {
-        return Err(Refusal::ValueRange);
-    }
-    check_samples(samples, asked)
 }
 
 // A bound with the reference point added; an open one as the minute that stands for it.
@@ -212,147 +205,161 @@ fn placed(beyond: u64, b: Option<u64>, reference: u64) -> u64
     b.map_or(beyond, |v| reference + v - BASE)
 }
 
-// The window of an annotation whose reference point is there. An open bound lies before all minutes, or beyond all that are asked about.
-fn window(a: Annotation, reference: u64) -> Window
-    requires { NearAll a × Near reference }
-    ensures is { result ≡ window a reference }
-    ensures small { SmallWindow result }
-{
-    Window {
-        ess: placed(0, a.ess, reference),
-        lss: placed(FAR, a.lss, reference),
-        efs: placed(0, a.efs, reference),
-        lfs: placed(FAR, a.lfs, reference),
-        least: a.least,
-        greatest: placed(FAR, a.greatest, BASE),
-    }
+// The window of an annotation, with bounds small enough for sums.
+#[derive(Clone, Copy)]
+struct Bounds {
+    window: Window,
+    ghost small: { SmallWindow window },
 }
 
-// Whether the interval from t1 to t2 lies in a window.
-#[tactic(auto, unfolding(time::specs::Search::admitted))]
-fn admits(w: Window, t1: u64, t2: u64) -> bool
-    requires { SmallWindow w × Worked t1 × Worked t2 }
-    ensures { result ≡ admitted w t1 t2 }
-{
-    (t1 + w.least <= t2 + BASE)
-        & (t2 + BASE <= t1 + w.greatest)
-        & (w.ess <= t1)
-        & (t1 <= w.lss)
-        & (w.efs <= t2)
-        & (t2 <= w.lfs)
-}
-
-// What is left of a run from b that is over at the minute `past`: the one interval in it that can satisfy, or nothing.
-#[tactic(auto, unfolding(time::specs::Search::over))]
-fn over(w: Window, b: u64, past: u64) -> Pass
-    requires { SmallWindow w × Named b × Named past }
-    ensures is { result ≡ over w b past }
-    ensures named { NamedPass result }
-{
-    let first = w.ess.max(b);
-    let last = w.lfs.min(past.saturating_sub(1));
-    if admits(w, first, last) {
-        return Pass::Found { first, last };
-    }
-    Pass::Off
-}
-
-// What a sample makes of a pass: it starts a run, ends one, or goes on with what there is.
-fn next(w: Window, pass: Pass, t: u64, truth: bool) -> Pass
-    requires { SmallWindow w × NamedPass pass × Named t }
-    ensures is { result ≡ next w pass t truth }
-    ensures named { NamedPass result }
-{
-    match (pass, truth) {
-        (Pass::Off, true) => Pass::Since(t),
-        (Pass::Since(b), false) => over(w, b, t),
-        _ => pass,
-    }
-}
-
-// The pass over the samples, as far as an interval that satisfies.
-#[tactic(auto, unfolding(time::specs::Search::pass_to))]
-fn passed(w: Window, samples: &[u64]) -> Pass
-    requires { SmallWindow w }
-    ensures is { result ≡ pass_to w samples.now (length samples.now) }
-    ensures named { NamedPass result }
-{
-    let mut pass = Pass::Off;
-    for &x in samples {
-        let s = sample(x);
-        pass = next(w, pass, s / 2, s % 2 == 1);
-        if matches!(pass, Pass::Found { .. }) {
-            return pass;
+impl Bounds {
+    // The window of an annotation whose reference point is there. An open bound lies before all minutes, or beyond all that are asked
+    // about.
+    fn of(a: Annotation, reference: u64) -> Bounds
+        requires { NearAll a × Near reference }
+        ensures { result.window ≡ window a reference }
+    {
+        Bounds {
+            window: Window {
+                ess: placed(0, a.ess, reference),
+                lss: placed(FAR, a.lss, reference),
+                efs: placed(0, a.efs, reference),
+                lfs: placed(FAR, a.lfs, reference),
+                least: a.least,
+                greatest: placed(FAR, a.greatest, BASE),
+            },
         }
     }
-    pass
-}
 
-// The first finish of an interval that starts at t1.
-fn finish(w: Window, t1: u64) -> u64
-    requires { SmallWindow w × (t1 ≤ 2 ^ 63 + 10 ^ 12) }
-    ensures { result ≡ finish w t1 }
-{
-    w.efs.max((t1 + w.least).saturating_sub(BASE))
-}
+    // Whether the interval from t1 to t2 lies in the window.
+    #[tactic(auto, unfolding(time::specs::Search::admitted))]
+    fn admits(self, t1: u64, t2: u64) -> bool
+        requires { Worked t1 × Worked t2 }
+        ensures { result ≡ admitted self.window t1 t2 }
+    {
+        let w = self.window;
+        (t1 + w.least <= t2 + BASE)
+            & (t2 + BASE <= t1 + w.greatest)
+            & (w.ess <= t1)
+            & (t1 <= w.lss)
+            & (w.efs <= t2)
+            & (t2 <= w.lfs)
+    }
 
-// Whether a run from b that goes on at the minute of asking can satisfy.
-#[tactic(auto, unfolding(time::specs::Search::goes_on))]
-fn goes_on(w: Window, b: u64, asked: u64) -> bool
-    requires { SmallWindow w × Named b × Named asked }
-    ensures { result ≡ goes_on w b asked }
-{
-    let first = w.ess.max(b);
-    admits(w, first, asked.max(finish(w, first)))
-}
+    // What is left of a run from b that is over at the minute `past`: the one interval in it that can satisfy, or nothing.
+    #[tactic(auto, unfolding(time::specs::Search::over))]
+    fn over(self, b: u64, past: u64) -> Pass
+        requires { Named b × Named past }
+        ensures is { result ≡ over self.window b past }
+        ensures named { NamedPass result }
+    {
+        let first = self.window.ess.max(b);
+        let last = self.window.lfs.min(past.saturating_sub(1));
+        if self.admits(first, last) {
+            return Pass::Found { first, last };
+        }
+        Pass::Off
+    }
 
-// Whether a run that starts at the minute k or later can satisfy.
-#[tactic(auto, unfolding(time::specs::Search::starts_from))]
-fn starts_from(w: Window, k: u64) -> bool
-    requires { SmallWindow w × (k ≤ 2 ^ 63 + 2) }
-    ensures { result ≡ starts_from w k }
-{
-    let first = k.max(w.ess.max((w.efs + BASE).saturating_sub(w.greatest)));
-    admits(w, first, finish(w, first))
-}
+    // What a sample makes of a pass: it starts a run, goes on with one, or ends one.
+    fn next(self, pass: Pass, t: u64, truth: bool) -> Pass
+        requires { NamedPass pass × Named t }
+        ensures is { result ≡ next self.window pass t truth }
+        ensures named { NamedPass result }
+    {
+        match pass {
+            Pass::Found { .. } => pass,
+            Pass::Off if truth => Pass::Since(t),
+            Pass::Off => Pass::Off,
+            Pass::Since(b) if truth => Pass::Since(b),
+            Pass::Since(b) => self.over(b, t),
+        }
+    }
 
-// Whether some continuation can satisfy, of what a pass was left with.
-#[tactic(auto, unfolding(time::specs::Search::can_be))]
-fn can_be(w: Window, pass: Pass, asked: u64) -> bool
-    requires { SmallWindow w × NamedPass pass × Named asked }
-    ensures { result ≡ can_be w pass asked }
-{
-    match pass {
-        Pass::Found { .. } => true,
-        Pass::Off => starts_from(w, asked + 1),
-        Pass::Since(b) => goes_on(w, b, asked) | starts_from(w, asked + 2),
+    // The pass over the samples, as far as an interval that satisfies.
+    #[tactic(auto, unfolding(time::specs::Search::pass_to))]
+    fn passed(self, samples: &[u64]) -> Pass
+        ensures is { result ≡ pass_to self.window samples.now (length samples.now) }
+        ensures named { NamedPass result }
+    {
+        let mut pass = Pass::Off;
+        for &x in samples {
+            let s = sample(x);
+            pass = self.next(pass, s / 2, s % 2 == 1);
+            if matches!(pass, Pass::Found { .. }) {
+                return pass;
+            }
+        }
+        pass
+    }
+
+    // The first finish of an interval that starts at t1.
+    fn finish(self, t1: u64) -> u64
+        requires { t1 ≤ 2 ^ 63 + 10 ^ 12 }
+        ensures { result ≡ finish self.window t1 }
+    {
+        let w = self.window;
+        w.efs.max((t1 + w.least).saturating_sub(BASE))
+    }
+
+    // Whether a run from b that goes on at the minute of asking can satisfy.
+    #[tactic(auto, unfolding(time::specs::Search::goes_on))]
+    fn goes_on(self, b: u64, asked: u64) -> bool
+        requires { Named b × Named asked }
+        ensures { result ≡ goes_on self.window b asked }
+    {
+        let first = self.window.ess.max(b);
+        self.admits(first, asked.max(self.finish(first)))
+    }
+
+    // Whether a run that starts at the minute k or later can satisfy.
+    #[tactic(auto, unfolding(time::specs::Search::starts_from))]
+    fn starts_from(self, k: u64) -> bool
+        requires { k ≤ 2 ^ 63 + 2 }
+        ensures { result ≡ starts_from self.window k }
+    {
+        let w = self.window;
+        let first = k.max(w.ess.max((w.efs + BASE).saturating_sub(w.greatest)));
+        self.admits(first, self.finish(first))
+    }
+
+    // Whether some continuation can satisfy, of what a pass was left with.
+    #[tactic(auto, unfolding(time::specs::Search::can_be))]
+    fn can_be(self, pass: Pass, asked: u64) -> bool
+        requires { NamedPass pass × Named asked }
+        ensures { result ≡ can_be self.window pass asked }
+    {
+        match pass {
+            Pass::Found { .. } => true,
+            Pass::Off => self.starts_from(asked + 1),
+            Pass::Since(b) => self.goes_on(b, asked) | self.starts_from(asked + 2),
+        }
+    }
+
+    // The answer of a history in order: a run that goes on is over after the minute of asking.
+    #[tactic(auto, unfolding(time::specs::Search::answer))]
+    fn answer(self, history: History<'_>) -> Judgement
+        ensures { let h = history.entry.samples.now in
+            result ≡ answer self.window (pass_to self.window h (length h)) history.entry.asked }
+    {
+        let asked = history.asked;
+        let pass = self.passed(history.samples);
+        match self.next(pass, asked + 1, false) {
+            Pass::Found { first, last } => Judgement::Satisfied { first, last },
+            _ if self.can_be(pass, asked) => Judgement::Satisfiable,
+            _ => Judgement::Neither,
+        }
     }
 }
 
-// The answer, of what a pass was left with: a run that goes on is over after the minute of asking.
-#[tactic(auto, unfolding(time::specs::Search::answer))]
-fn answer(w: Window, pass: Pass, asked: u64) -> Judgement
-    requires { SmallWindow w × NamedPass pass × (asked ≤ 5000000000) }
-    ensures { result ≡ answer w pass asked }
-{
-    match next(w, pass, asked + 1, false) {
-        Pass::Found { first, last } => Judgement::Satisfied { first, last },
-        _ if can_be(w, pass, asked) => Judgement::Satisfiable,
-        _ => Judgement::Neither,
-    }
-}
-
-// The larger of two least bounds.
+// The larger of two least bounds. None counts as less than any number, as an open one is.
 fn larger(x: Option<u64>, y: Option<u64>) -> Option<u64>
     ensures { result ≡ larger x y }
 {
-    match (x, y) {
-        (Some(v), Some(w)) => Some(v.max(w)),
-        _ => x.or(y),
-    }
+    x.max(y)
 }
 
-// The smaller of two greatest bounds.
+// The smaller of two greatest bounds. An open one is more than any number, which `min` would not say.
 fn smaller(x: Option<u64>, y: Option<u64>) -> Option<u64>
     ensures { result ≡ smaller x y }
 {

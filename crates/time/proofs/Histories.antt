@@ -225,6 +225,8 @@ module _ (h : List ℕ) (asked : ℕ) where
       pub asked_near : Near asked
       asked_near = near asked (second (annotation_in_range a) (in_range asked) is_in_range)
 
+pub ruleset checks = (refuses_range, refuses_many, refuses_order, passes)
+
 -- what the code answers is permitted
 module _ (l h : List ℕ) (z : ℕ) where
   abbrev a : Annotation

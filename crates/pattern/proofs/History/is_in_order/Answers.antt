@@ -1,9 +1,9 @@
--- `in_order` meets its contract: from the last of the samples that are left on, the minutes rise. Assumes nothing.
+-- `is_in_order` meets its contract: from the last of the samples that are left on, the minutes rise. Assumes nothing.
 use Rattle.std.proofs.Common.{◌≡◌, ◌<◌, ◌≤◌, ◌++◌, ◌∷◌, [], ℕ, suc, false, List, length, length-append, append_assoc, append-nil, get_or, refl, sym, ◌∙◌, ap, arith}
 use Rattle.std.proofs.Math.Seq.{get_or-append_seam}
 use Rattle.time.specs.Patterns.{every, edge, in_order, minute_at}
 use Rattle.time.proofs.Histories.{edge_in, edge_end, goes_up, falls_at, rises_at}
-use Rattle.pattern.proofs.in_order.Goals as goal
+use Rattle.pattern.proofs.History.is_in_order.Goals as goal
 
 -- one turn: x is taken off the end of what is left
 module _ (samples rest after left : List ℕ) (x : ℕ) (split : samples ≡ rest ++ after) (step : rest ≡ left ++ x ∷ []) where
@@ -32,30 +32,30 @@ module _ (samples rest after left : List ℕ) (x : ℕ) (split : samples ≡ res
 pub loop-x-init : goal.loop-x-init
 unfolding in_order
 loop-x-init c =
-    let samples = c.args.samples.now in
+    let samples = c.args.self.samples.now in
     let all : c.into_iter-x-iterator.result.iter.rest.now ≡ samples = cc in
     record {
       after = [];
       split = sym (append-nil _ ∙ all);
-      until = rw all (sym (edge_end samples c.args.asked (length samples) (omega arith)));
+      until = rw all (sym (edge_end samples c.args.self.asked (length samples) (omega arith)));
       rises = rw all refl;
     }
 
 pub returns-then-until-t : goal.returns-then-until-t
 returns-then-until-t c =
-    let samples = c.args.samples.now in
+    let samples = c.args.self.samples.now in
     let rest = c.loop-x.x-iterator.iter.rest.now in
     let left = c.next.new.self.iter.rest.now in
     let x = c.in-Some.field-0.now in
     let split = c.loop-x.invariant.split in
     let step = c.in-Some.ensures.steps in
     let at : get_or samples (length left) 0 ≡ x = here samples rest c.loop-x.invariant.after left x split step in
-    sym (falls samples rest c.loop-x.invariant.after left x split step c.args.asked c.loop-x.until c.loop-x.invariant.until (rw at (omega arith)))
+    sym (falls samples rest c.loop-x.invariant.after left x split step c.args.self.asked c.loop-x.until c.loop-x.invariant.until (rw at (omega arith)))
 
 pub loop-x-preserved : goal.loop-x-preserved
 loop-x-preserved c =
-    let samples = c.args.samples.now in
-    let asked = c.args.asked in
+    let samples = c.args.self.samples.now in
+    let asked = c.args.self.asked in
     let rest = c.loop-x.x-iterator.iter.rest.now in
     let left = c.next.new.self.iter.rest.now in
     let x = c.in-Some.field-0.now in

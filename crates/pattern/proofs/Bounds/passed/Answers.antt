@@ -2,13 +2,13 @@
 use Rattle.std.proofs.Common.{◌≡◌, ◌+◌, true, length, sym, ◌∙◌, add-one, arith}
 use Rattle.time.specs.Search.{is_found, pass_to}
 use Rattle.time.proofs.Passes.{found_stays}
-use Rattle.pattern.proofs.passed.Goals.{in-Found, in_default}
-use Rattle.pattern.proofs.passed.Goals as goal
+use Rattle.pattern.proofs.Bounds.passed.Goals.{in-Found, in_default}
+use Rattle.pattern.proofs.Bounds.passed.Goals as goal
 
 pub returns-then-matches-clause-is : goal.returns-then-matches-clause-is
 unfolding pass_to
 returns-then-matches-clause-is c =
-    let w = c.args.w in
+    let w = c.args.self.window in
     let samples = c.args.samples.now in
     let i = c.loop-x.x-index in
     let found : is_found c.next-pass.result ≡ true =
