@@ -1,24 +1,24 @@
 -- `check_from` meets its contract: the checks before the table's own decide first. Assumes nothing.
 use Rattle.std.proofs.Common.{sym, ◌∙◌}
+use Rattle.std.proofs.lemmas.Result.{err_from_is_err_and}
 use Rattle.rules.proofs.Outcomes.{then_next, then_stops}
 use Rattle.rules.proofs.Tree.{was_done, was_refused}
 use Rattle.versions.specs.Versions.{check_from}
 use Rattle.versions.proofs.check_from.Goals as goal
 
-pub returns-in-Refused : goal.returns-in-Refused
+pub returns-in_err-version_check : goal.returns-in_err-version_check
 unfolding check_from
-returns-in-Refused c = sym (then_stops _ _ _ (sym c.version_check.ensures ∙ c.in-Refused.is))
+returns-in_err-version_check c =
+    let p = err_from_is_err_and c.from_residual.result c.from_residual.ensures.1 in
+    rw (p.1, p.2) (sym (then_stops _ _ _ (sym c.in_err-version_check.ensures)))
 
-pub returns-in-Refused-check_table : goal.returns-in-Refused-check_table
+pub returns-in_err-check_table : goal.returns-in_err-check_table
 unfolding check_from
-returns-in-Refused-check_table c =
-    sym
-    (then_next _ _ (sym c.version_check.ensures ∙ c.in-Done.is)
-    ∙ was_refused _ _ (sym c.check_table.ensures ∙ c.in-Refused-check_table.is))
+returns-in_err-check_table c =
+    let p = err_from_is_err_and c.from_residual-in_err-check_table.result c.from_residual-in_err-check_table.ensures.1 in
+    rw (p.1, p.2)
+    (sym (then_next _ _ (sym c.in_ok-version_check.ensures) ∙ was_refused _ _ (sym c.in_err-check_table.ensures)))
 
-pub returns-in-Accepted : goal.returns-in-Accepted
+pub returns : goal.returns
 unfolding check_from
-returns-in-Accepted c =
-    sym
-    (then_next _ _ (sym c.version_check.ensures ∙ c.in-Done.is)
-    ∙ (was_done _ _ (sym c.check_table.ensures ∙ c.in-Accepted.is)).0)
+returns c = sym (then_next _ _ (sym c.in_ok-version_check.ensures) ∙ (was_done _ _ (sym c.in_ok-check_table.ensures)).0)

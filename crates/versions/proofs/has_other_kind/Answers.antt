@@ -1,7 +1,6 @@
 -- `has_other_kind` meets its contract: its closure asks one node. Assumes nothing.
-use Rattle.std.proofs.Common.{rules, eqb, ◌∙◌, ap, sym}
+use Rattle.std.proofs.Common.{rules, eqb, sym}
 use mathlib.Core.Bool.{not}
-use Rattle.rules.specs.Lists.{some_below}
 use Rattle.rules.specs.WaitFor.{node}
 use Rattle.rules.proofs.Ranges.{some_from_any}
 use Rattle.versions.specs.Versions.{other_kind}

@@ -1,21 +1,21 @@
 -- `to_version_2` meets its contract: by the checks before 24. Assumes nothing.
-use Rattle.std.proofs.Common.{ℕ, sym, ◌∙◌, subst, arith}
+use Rattle.std.proofs.Common.{ℕ, sym, subst, arith}
+use Rattle.std.proofs.lemmas.Result.{err_from_is_err_and}
 use Rattle.versions.specs.Room.{HasPlans}
 use Rattle.versions.proofs.Moves.{refused, has_plans}
 use Rattle.versions.proofs.to_version_2.Goals as goal
 
+pub returns-in_err-check_from-clause-answer : goal.returns-in_err-check_from-clause-answer
+returns-in_err-check_from-clause-answer c =
+    let p = err_from_is_err_and c.from_residual.result c.from_residual.ensures.1 in
+    rw (p.1, p.2) (refused _ _ _ _ (sym c.in_err-check_from.ensures)).0
+
+pub returns-in_err-check_from-clause-left : goal.returns-in_err-check_from-clause-left
+returns-in_err-check_from-clause-left c = (refused _ _ _ _ (sym c.in_err-check_from.ensures)).1
+
 pub plan_count-requires : goal.plan_count-requires
-plan_count-requires c =
-    let plans = has_plans _ _ (sym c.check_from.ensures ∙ c.in-Done.is) in
-    omega (arith, plans.room)
+plan_count-requires c = omega (arith, (has_plans _ _ (sym c.in_ok-check_from.ensures)).room)
 
 pub move_to_2-requires : goal.move_to_2-requires
 move_to_2-requires c =
-    subst (λ (n : ℕ). HasPlans c.args.table.now n) (sym c.plan_count.ensures)
-    (has_plans _ _ (sym c.check_from.ensures ∙ c.in-Done.is))
-
-pub returns-in-Refused-clause-answer : goal.returns-in-Refused-clause-answer
-returns-in-Refused-clause-answer c = (refused _ _ _ _ (sym c.check_from.ensures ∙ c.in-Refused.is)).0
-
-pub returns-in-Refused-clause-left : goal.returns-in-Refused-clause-left
-returns-in-Refused-clause-left c = (refused _ _ _ _ (sym c.check_from.ensures ∙ c.in-Refused.is)).1
+    subst (λ (n : ℕ). HasPlans c.args.table.now n) (sym c.plan_count.ensures) (has_plans _ _ (sym c.in_ok-check_from.ensures))
