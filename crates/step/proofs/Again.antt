@@ -1,7 +1,6 @@
 -- What `step` and `rest` leave may be handed in again: it passes check 11, and every call passes whose words would have passed before.
 -- Assumes nothing.
 use Prim.Native.Nat.{ℕ, ◌*◌}
-use native.Mathlib.Omega.{arith}
 use mathlib.Core.Path.{◌≡◌, refl, ◌∙◌}
 use mathlib.Core.Bool.{false}
 use mathlib.Core.List.{List}
@@ -12,7 +11,8 @@ use Rattle.rules.specs.Rest.{after, steps_taken}
 use Rattle.rules.specs.HandedIn.{bad_state}
 use Rattle.rules.specs.Answers.{wrong_lengths, rule_check, table_check, lent_check, call_check, step_states, run_states, Done}
 use Rattle.rules.proofs.Outcomes.{first_done, then_done, pass, pass_at, then_next}
-use Rattle.lowest.proofs.Lowest.{ends_here, lowest_none}
+use Rattle.std.specs.Prelude.{None}
+use Rattle.lowest.proofs.Lowest.{lowest_is}
 use Rattle.demands.specs.PassesStates.{PassesStates}
 use Rattle.demands.proofs.PassedCall.{table_passes, lent_passes, lengths, handed_in, words_in, after_passes}
 
@@ -29,7 +29,7 @@ module _ (rule : ℕ) (t s w c : List ℕ) (done : call_check rule t s w c ≡ D
         eq-eqb (length w) (4 * n) long.1,
         eq-eqb (length c) n long.2,
       ) refl in
-      let none = lowest_none (bad_state t x) n n (ends_here (bad_state t x) n n passes.unbroken refl) (omega arith) in
+      let none = lowest_is (bad_state t x) n None passes.unbroken in
       then_next (rule_check rule) _ (first_done (rule_check rule) _ done)
       ∙ then_next (table_check t) _ (table_passes rule t s w c done)
       ∙ pass _ _ _ same_length

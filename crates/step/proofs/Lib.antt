@@ -1,5 +1,4 @@
 -- Laws for the proofs of this crate and of those above it.
-pub mod Leaves
 pub mod Rests
 pub mod Again
 pub mod Unique

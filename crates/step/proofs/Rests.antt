@@ -13,7 +13,7 @@ use Rattle.rules.specs.Step.{step, causes as causes_of_step}
 use Rattle.rules.specs.Rest.{after, settled, least_rest, steps_taken, last_causes}
 use Rattle.rules.specs.Answers.{call_check, rest_answer, run_answer, run_states, run_causes, Rest, Done}
 use Rattle.rules.specs.declared.Refusal.{Refusal}
-use Rattle.lowest.proofs.Lowest.{lowest_at, lowest_none, stops_here, ends_here}
+use Rattle.lowest.proofs.Lowest.{lowest_is}
 use Rattle.demands.specs.BranchesAgree.{BranchesAgree}
 use Rattle.demands.proofs.PassedCall.{after_passes}
 use Rattle.lent.specs.Calls.{MayMove}
@@ -65,9 +65,7 @@ module _ (rule : ℕ) (t s w : List ℕ) where
     unfolding least_rest
     rests budget l e =
         let found =
-        lowest_at (settled rule t s w) (suc budget) k
-        (stops_here (settled rule t s w) (suc budget) k running.moved (omega arith) (now_settled true (sym e)))
-        (omega arith)
+        lowest_is (settled rule t s w) (suc budget) (Some k) (omega arith, now_settled true (sym e), running.moved)
         in
         record {
           answer = rw (found, rest_answer) refl;
@@ -81,11 +79,8 @@ module _ (rule : ℕ) (t s w : List ℕ) where
     unfolding least_rest
     moves budget l e =
         let none =
-        lowest_none (settled rule t s w) (suc budget) (k + 1)
-        (ends_here (settled rule t s w) (suc budget) (k + 1)
-        (below_more (λ (j : ℕ). settled rule t s w j ≡ false) k running.moved (now_settled false (sym e)))
-        (omega arith))
-        (omega arith)
+        lowest_is (settled rule t s w) (suc budget) None
+        (λ j h. below_more (λ (i : ℕ). settled rule t s w i ≡ false) k running.moved (now_settled false (sym e)) j (omega arith))
         in
         record {
           answer = rw (none, rest_answer) refl;

@@ -1,7 +1,6 @@
 -- The work space of a step: its room. Assumes nothing.
 use Rattle.std.specs.Prelude.{ℕ, ◌*◌, ◌≤◌, List, length}
 use Rattle.children.specs.Sets.{Empty}
-use Rattle.table.specs.Facts.{RoomFor}
 
 -- room for a step of n plans, where the words of children are 0
 pub record StepRoom (n : ℕ) (sets picks new : List ℕ) : Type 0 where
@@ -9,9 +8,3 @@ pub record StepRoom (n : ℕ) (sets picks new : List ℕ) : Type 0 where
   pub picks_room : n ≤ length picks
   pub new_room : n ≤ length new
   pub empty : Empty (n * 9) sets
-
--- what the checks leave to be lent of it
-pub record RoomToStep (t sets new : List ℕ) : Type 0 where
-  pub sets_room : RoomFor t 9 sets
-  pub new_room : RoomFor t 1 new
-  pub empty : Empty (length sets) sets

@@ -2,28 +2,34 @@
 // A step costs O(n) for n plans; nothing is allocated. Assumes nothing.
 #![tactic(auto)]
 
-ghost use Rattle.std.specs.Prelude.{◌≡◌, cond, ltb, ℕ, ◌≤◌, ◌<◌, length, take};
+ghost use Rattle.std.specs.Prelude.{◌≡◌, cond, ltb, ℕ, ◌*◌, ◌≤◌, ◌<◌, length, take};
 ghost use Rattle.rules.specs.Table.{plan_count};
 ghost use Rattle.rules.specs.Step.{step};
 ghost use Rattle.rules.specs.Step.{causes as causes_of_step};
-ghost use Rattle.rules.specs.Answers.{step_answer, step_states, step_causes, run_answer, run_states, run_causes};
-ghost use Rattle.table.specs.Facts.{FactsRoom};
+ghost use Rattle.rules.specs.Answers.{header_check, Done, step_answer, step_states, step_causes, run_answer, run_states, run_causes};
 ghost use Rattle.moves.specs.Causes.{causes_told};
 ghost use Rattle.moves.specs.MoveFacts.{CauseFacts};
 ghost use Rattle.lent.specs.Calls.{MayMove};
 ghost use Rattle.demands.specs.BranchesAgree.{BranchesAgree};
 ghost use Rattle.step.specs.Runs.{Ran};
-ghost use Rattle.step.specs.WorkSpace.{StepRoom, RoomToStep};
+ghost use Rattle.step.specs.WorkSpace.{StepRoom};
 
 use children::{resurvey, survey};
+use family::Scene;
 use lent::check_call;
 use pass::{advance, take_over, take_picks, tell_causes, unchanged};
 use reading::plan_count;
-use rules::{Refusal};
+use rules::Refusal;
 
 // One synchronous step over the states, by a rule, with the causes of all plans' moves; or a refusal that changes no state and no cause.
 // Its work space is cleared in each call: a small tree does not pay for a large one.
-pub fn step(rule: u32, table: &[u8], states: &mut [u8], words: &[u8], causes: &mut [u8]) -> Result<(), Refusal>
+pub fn step(
+    rule: u32,
+    table: &[u8],
+    states: &mut [u8],
+    words: &[u8],
+    causes: &mut [u8],
+) -> Result<(), Refusal>
     ensures answer { result ≡ step_answer rule table.now states.old words.now
         causes.old }
     ensures left { states.new ≡ step_states rule table.now states.old words.now
@@ -33,60 +39,12 @@ pub fn step(rule: u32, table: &[u8], states: &mut [u8], words: &[u8], causes: &m
 {
     let n = plans_told(table);
     if n <= 16 {
-        let mut ranks = [0u8; 16];
-        let mut counts = [0u8; 16];
-        let mut names = [0u64; 32];
-        let mut sets = [0u64; 144];
-        let mut new = [0u8; 16];
-        return step_within(
-            rule,
-            table,
-            states,
-            words,
-            causes,
-            &mut ranks,
-            &mut counts,
-            &mut names,
-            &mut sets,
-            &mut new,
-        );
+        return step_in::<16, 32, 144>(rule, table, states, words, causes);
     }
     if n <= 64 {
-        let mut ranks = [0u8; 64];
-        let mut counts = [0u8; 64];
-        let mut names = [0u64; 128];
-        let mut sets = [0u64; 576];
-        let mut new = [0u8; 64];
-        return step_within(
-            rule,
-            table,
-            states,
-            words,
-            causes,
-            &mut ranks,
-            &mut counts,
-            &mut names,
-            &mut sets,
-            &mut new,
-        );
+        return step_in::<64, 128, 576>(rule, table, states, words, causes);
     }
-    let mut ranks = [0u8; 256];
-    let mut counts = [0u8; 256];
-    let mut names = [0u64; 512];
-    let mut sets = [0u64; 2304];
-    let mut new = [0u8; 256];
-    step_within(
-        rule,
-        table,
-        states,
-        words,
-        causes,
-        &mut ranks,
-        &mut counts,
-        &mut names,
-        &mut sets,
-        &mut new,
-    )
+    step_in::<256, 512, 2304>(rule, table, states, words, causes)
 }
 
 // Steps by a rule under held words until one more step changes nothing, or until the budget is used, with the causes of the last step
@@ -109,7 +67,7 @@ pub fn rest(
     let mut ranks = [0u8; 256];
     let mut counts = [0u8; 256];
     let mut names = [0u64; 512];
-    match check_call(
+    check_call(
         rule,
         table,
         states,
@@ -118,10 +76,8 @@ pub fn rest(
         &mut ranks,
         &mut counts,
         &mut names,
-    ) {
-        Err(why) => Err(why),
-        Ok(()) => settle(rule, table, &ranks, &names, states, words, causes, budget),
-    }
+    )?;
+    settle(rule, table, &ranks, &names, states, words, causes, budget)
 }
 
 // How many plans the header of a table tells; none where it is short.
@@ -134,21 +90,17 @@ fn plans_told(table: &[u8]) -> usize
     plan_count(table)
 }
 
-// The same, within work space that has room for every plan of the table, and whose words are 0.
-fn step_within(
+// The step of a table of up to PLANS plans, in work space for so many: for each plan two words of named children and nine of children by
+// state.
+fn step_in<const PLANS: usize, const NAMES: usize, const SETS: usize>(
     rule: u32,
     table: &[u8],
     states: &mut [u8],
     words: &[u8],
     causes: &mut [u8],
-    ranks: &mut [u8],
-    counts: &mut [u8],
-    names: &mut [u64],
-    sets: &mut [u64],
-    new: &mut [u8],
 ) -> Result<(), Refusal>
-    requires facts { FactsRoom table.now ranks.old counts.old names.old }
-    requires room { RoomToStep table.now sets.old new.old }
+    requires sizes { (PLANS ≤ 256) × (NAMES ≡ PLANS * 2) × (SETS ≡ PLANS * 9) }
+    requires room { header_check table.now ≡ Done → plan_count table.now ≤ PLANS }
     ensures answer { result ≡ step_answer rule table.now states.old words.now
         causes.old }
     ensures left { states.new ≡ step_states rule table.now states.old words.now
@@ -156,16 +108,35 @@ fn step_within(
     ensures told { causes.new ≡ step_causes rule table.now states.old words.now
         causes.old }
 {
-    match check_call(rule, table, states, words, causes, ranks, counts, names) {
-        Err(why) => Err(why),
-        Ok(()) => {
-            // the numbers of children are done with: their room is the picks'
-            step_over(
-                rule, table, ranks, names, states, words, causes, sets, counts, new,
-            );
-            Ok(())
-        }
-    }
+    let mut ranks = [0u8; PLANS];
+    let mut counts = [0u8; PLANS];
+    let mut names = [0u64; NAMES];
+    let mut sets = [0u64; SETS];
+    let mut new = [0u8; PLANS];
+    check_call(
+        rule,
+        table,
+        states,
+        words,
+        causes,
+        &mut ranks,
+        &mut counts,
+        &mut names,
+    )?;
+    // the numbers of children are done with: their room is the picks'
+    step_over(
+        rule,
+        table,
+        &ranks,
+        &names,
+        states,
+        words,
+        causes,
+        &mut sets,
+        &mut counts,
+        &mut new,
+    );
+    Ok(())
 }
 
 // One step by a rule over states that have passed the checks.
@@ -190,9 +161,18 @@ fn step_over(
     let n = states.len();
     survey(table, n, ranks, states, sets);
     take_picks(words, n, picks);
-    advance(
-        rule, table, n, ranks, names, sets, picks, states, words, new,
-    );
+    let scene = Scene {
+        rule,
+        table,
+        n,
+        ranks,
+        names,
+        sets,
+        picks,
+        old: states,
+        words,
+    };
+    advance(&scene, new);
     take_step(table, words, new, states, causes);
 }
 
@@ -235,9 +215,18 @@ fn settle(
     tell_causes(table, states, words, states, causes);
     let mut k = 0u16;
     loop {
-        advance(
-            rule, table, n, ranks, names, &sets, &picks, states, words, &mut new,
-        );
+        let scene = Scene {
+            rule,
+            table,
+            n,
+            ranks,
+            names,
+            sets: &sets,
+            picks: &picks,
+            old: states,
+            words,
+        };
+        advance(&scene, &mut new);
         if unchanged(&new, states) {
             return Ok(Some(k));
         }
