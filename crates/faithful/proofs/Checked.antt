@@ -29,7 +29,7 @@ use Rattle.rules.specs.declared.Body.TheVariants.{Leaf}
 use Rattle.rules.specs.declared.PlanEntry.{PlanEntry}
 use Rattle.rules.proofs.Outcomes.{first_done, then_done, if_done, pass, pass_last, pass_at, pass_at_last, then_next}
 use Rattle.rules.proofs.Tree.{Passes, tree}
-use Rattle.lowest.proofs.Lowest.{lowest_none, ends_here}
+use Rattle.lowest.proofs.Lowest.{lowest_is}
 use Rattle.alike.proofs.SamePlans.{with_wait, SamePlans, plan_as, parent_as, before_as, children_as, above_as}
 use Rattle.faithful.proofs.Shape.{Moved, same_count, same_last, wait_is, same_plans}
 use Rattle.faithful.proofs.Passing.{room}
@@ -37,7 +37,7 @@ use Rattle.std.specs.Prelude.{None}
 
 -- a search where nothing passes finds nothing
 pub none_found : (f : ℕ → Bool) (n : ℕ) → ((k : ℕ) → k < n → f k ≡ false) → least f n ≡ None
-none_found f n none = lowest_none f n n (ends_here f n n none refl) (omega arith)
+none_found f n none = lowest_is f n None none
 
 -- a table whose tests find nothing passes
 checked : (t : List ℕ) → Passes t → table_check t ≡ Done
