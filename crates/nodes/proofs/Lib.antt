@@ -1,5 +1,4 @@
 -- Laws for the proofs of this crate.
-pub mod Operands
 pub mod Uses
 pub mod Owners
 pub mod Standing

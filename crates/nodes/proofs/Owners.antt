@@ -5,21 +5,22 @@ use native.Mathlib.Omega.{arith}
 use native.Mathlib.Numerals.{add-one}
 use native.Mathlib.Decide.{ℕ_discrete}
 use mathlib.Core.Path.{◌≡◌, refl, sym, ap, subst, ◌∙◌}
-use mathlib.Core.Bool.{Bool, true, false, cond, not, ◌&&◌, ◌||◌, true≢false, false≢true, or-true, or-false}
+use mathlib.Core.Bool.{Bool, true, false, cond, not, ◌&&◌, ◌||◌, true≢false, or-true, or-false}
 use mathlib.Core.List.{List, [], ◌∷◌}
 use lib.Count.{ones}
 use lib.Dec.{eqb, leb, ltb}
 use lib.ListN.{length, get_or, set, length-set}
 use lib.Seq.{get_or-set_same, get_or-set_other}
-use borrow.Author.Tests.{eq-eqb, ne_eqb, leb-true, leb-false, le-leb, ltb-true, ltb-false, lt-ltb, le-ltb}
+use borrow.Author.Tests.{eq-eqb, ne_eqb, leb-true, leb-false, ltb-true, ltb-false, lt-ltb, le-ltb}
 use Rattle.rules.specs.Bytes.{byte_at}
 use Rattle.rules.specs.Lists.{some, some_below, highest, least}
-use Rattle.rules.specs.Table.{plan_count, entry, body_of, is_body, named, children}
-use Rattle.rules.specs.WaitFor.{asks, operands, node_count, node, uses_node, begins_with, first_nodes, asked_nodes, owner_within, owner}
+use Rattle.rules.specs.Table.{plan_count, entry, named, children}
+use Rattle.rules.specs.WaitFor.{asks, operands, is_leaf, node_count, node, uses_node, begins_with, first_nodes, asked_nodes, owner_within, owner}
 use Rattle.rules.specs.Answers.{◌and_then◌, refuse_at, too_many, stray_first, bad_bytes, bad_node, bad_rank, bad_wait, asks_too_many, formulas_check, Outcome}
-use Rattle.rules.specs.declared.Body.TheVariants.{Leaf}
 use Rattle.rules.specs.declared.Node.{Node}
-use Rattle.rules.specs.declared.PlanEntry.{PlanEntry}
+use Rattle.rules.specs.declared.Asks.{Asks}
+use Rattle.rules.specs.declared.Asks.TheVariants.{Child, Not, Join, AtLeast}
+use Rattle.rules.specs.declared.Joint.TheVariants.{And, Or, Xor}
 use Rattle.rules.specs.declared.Refusal.TheVariants.{Formula}
 use Rattle.rules.proofs.Least.{nowhere}
 use Rattle.rules.proofs.Below.{none_below, none_true}
@@ -28,8 +29,7 @@ use Rattle.children.specs.Sets.{Empty, set_of}
 use Rattle.children.proofs.Sets.{set_ones}
 use Rattle.lowest.specs.Lowest.{Lowest}
 use Rattle.lowest.proofs.Lowest.{lowest_is, lowest_as, lower, lowest_either}
-use Rattle.nodes.specs.Checking.{HasNodes, Uses, asks_node, joins, bad_operands, FirstOwners, Owners, asking}
-use Rattle.nodes.proofs.Operands.{operands_are}
+use Rattle.nodes.specs.Checking.{HasNodes, Uses, bad_operands, FirstOwners, owned_each, Owners, asks_beyond, asks_more, asking}
 use Rattle.std.specs.Prelude.{Option, Err, Some, None}
 use Rattle.std.specs.Option.{MatchOption}
 
@@ -103,24 +103,23 @@ module _ (t : List ℕ) where
   unfolding owner
   owner_lt h j = within_lt h j j
 
--- what is read after a write that a test lets happen, and that it leaves the length
+-- what is read after some nodes have become a plan's, and that it leaves the length
+same_either : (b : Bool) (v : ℕ) → cond b v v ≡ v
+same_either true v = refl
+same_either false v = refl
+
 owned_at :
-    (xs : List ℕ) (a v : ℕ) (b : Bool) (j : ℕ) → j < length xs
-    → byte_at (cond b (set xs a v) xs) j ≡ cond (b && eqb j a) v (byte_at xs j)
-owned_at xs a v false j h = refl
-owned_at xs a v true j h = go (ℕ_discrete j a)
+    (js xs : List ℕ) (v j : ℕ) → j < length xs → byte_at (owned_each xs v js) j ≡ cond (some (eqb j) js) v (byte_at xs j)
+owned_at [] xs v j h = refl
+owned_at (a ∷ more) xs v j h = owned_at more (set xs a v) v j (omega (arith, length-set xs a v)) ∙ go (ℕ_discrete j a)
   where
-    go : Dec (j ≡ a) → byte_at (set xs a v) j ≡ cond (eqb j a) v (byte_at xs j)
-    go (yes e) = rw (eq-eqb j a e, ← e) (get_or-set_same xs j v 0 h)
-    go (no ne) = rw (ne_eqb j a ne) (get_or-set_other xs a j v 0 ne)
+    go : Dec (j ≡ a) → cond (some (eqb j) more) v (byte_at (set xs a v) j) ≡ cond (eqb j a || some (eqb j) more) v (byte_at xs j)
+    go (yes e) = rw (eq-eqb j a e, ← e) (ap (cond (some (eqb j) more) v) (get_or-set_same xs j v 0 h) ∙ same_either (some (eqb j) more) v)
+    go (no ne) = rw (ne_eqb j a ne) (ap (cond (some (eqb j) more) v) (get_or-set_other xs a j v 0 ne))
 
-owned_length : (xs : List ℕ) (a v : ℕ) (b : Bool) → length (cond b (set xs a v) xs) ≡ length xs
-owned_length xs a v true = length-set xs a v
-owned_length xs a v false = refl
-
-pub still_room :
-    (xs next : List ℕ) (a v : ℕ) (b : Bool) → next ≡ cond b (set xs a v) xs → length xs ≡ 256 → 256 ≤ length next
-still_room xs next a v b e room = omega (arith, ap length e, owned_length xs a v b)
+owned_length : (js xs : List ℕ) (v : ℕ) → length (owned_each xs v js) ≡ length xs
+owned_length [] xs v = refl
+owned_length (a ∷ more) xs v = owned_length more (set xs a v) v ∙ length-set xs a v
 
 -- the code compares the other way round
 pub eqb_swap : (a b : ℕ) → eqb a b ≡ eqb b a
@@ -129,25 +128,6 @@ eqb_swap a b = go (ℕ_discrete a b)
     go : Dec (a ≡ b) → eqb a b ≡ eqb b a
     go (yes e) = eq-eqb a b e ∙ sym (eq-eqb b a (sym e))
     go (no ne) = ne_eqb a b ne ∙ sym (ne_eqb b a (λ e. ne (sym e)))
-
--- a node uses its operands
-joins_asks : (e : Node) → joins e ≡ true → asks_node e ≡ true
-joins_asks e h = go (leb 2 e.kind) refl h
-  where
-    go : (b : Bool) → leb 2 e.kind ≡ b → (b && leb e.kind 4) ≡ true → asks_node e ≡ true
-    go true l h = rw (le-leb 1 e.kind (omega (arith, leb-true 2 e.kind l))) h
-    go false l h = absurd (false≢true h)
-
-operands_have : (e : Node) (j : ℕ) → some (eqb j) (operands (asks e)) ≡ (asks_node e && eqb j e.a || joins e && eqb j e.b)
-operands_have e j = rw (operands_are e) (go (asks_node e) (joins e) (joins_asks e))
-  where
-    go :
-        (x y : Bool) → (y ≡ true → x ≡ true)
-        → some (eqb j) (cond x (e.a ∷ cond y (e.b ∷ []) []) []) ≡ (x && eqb j e.a || y && eqb j e.b)
-    go true true h = simp or-false
-    go true false h = refl
-    go false true h = absurd (false≢true (h refl))
-    go false false h = refl
 
 -- a good node uses none up to itself: this is why its owner is known when its turn comes
 none_in : (f g : ℕ → Bool) (l : List ℕ) → ((o : ℕ) → f o ≡ false → g o ≡ false) → some f l ≡ false → some g l ≡ false
@@ -173,33 +153,37 @@ pub no_owners : (t owners : List ℕ) → Empty 256 owners × (length owners ≡
 unfolding highest
 no_owners t owners h = record { room = h.1; owned = λ j l. h.0 j l }
 
--- a turn of the first pass, in the code's words: the formula of plan p begins with node `wait`
-module _
-    (t : List ℕ)
-    (p : ℕ)
-    (owners : List ℕ)
-    (before : FirstOwners t p owners)
-    (e : PlanEntry)
-    (is : e ≡ entry t p)
-    (leaf : Bool)
-    (says : leaf ≡ is_body Leaf (body_of e))
-    (next : List ℕ)
-    (write : next ≡ cond (not leaf) (set owners e.wait p) owners)
-  where
-    begins : (j : ℕ) → cond (not leaf && eqb j e.wait) p (highest (begins_with t j) p) ≡ highest (begins_with t j) (p + 1)
-    unfolding highest
-    begins j = rw (add-one p, says, is, eqb_swap j (entry t p).wait)
+-- a turn of the first pass: the node that the formula of plan p begins with becomes p's
+module _ (t : List ℕ) (p : ℕ) (owners : List ℕ) (before : FirstOwners t p owners) where
+  abbrev firsts : Bool → List ℕ
+  firsts leaf = cond leaf [] ((entry t p).wait ∷ [])
 
-    pub first_turn : FirstOwners t (p + 1) next
-    first_turn =
-        record {
-          room = ap length write ∙ owned_length owners e.wait p (not leaf) ∙ before.room;
-          owned = λ j h.
-              ap (λ (l : List ℕ). byte_at l j) write
-              ∙ owned_at owners e.wait p (not leaf) j (omega (arith, before.room))
-              ∙ ap (cond (not leaf && eqb j e.wait) p) (before.owned j h)
-              ∙ begins j;
-        }
+  begins : (leaf : Bool) → is_leaf t p ≡ leaf → (j : ℕ)
+      → cond (some (eqb j) (firsts leaf)) p (highest (begins_with t j) p) ≡ highest (begins_with t j) (p + 1)
+  unfolding highest
+  begins true e j =
+      rw (add-one p)
+      (ap (λ (b : Bool). cond (not b && eqb (entry t p).wait j) p (highest (begins_with t j) p)) (sym e))
+  begins false e j =
+      rw (add-one p)
+      (ap (λ (b : Bool). cond b p (highest (begins_with t j) p)) (or-false (eqb j (entry t p).wait) ∙ eqb_swap j (entry t p).wait)
+      ∙ ap (λ (b : Bool). cond (not b && eqb (entry t p).wait j) p (highest (begins_with t j) p)) (sym e))
+
+  first_turn : (leaf : Bool) → is_leaf t p ≡ leaf → FirstOwners t (p + 1) (owned_each owners p (firsts leaf))
+  first_turn leaf e =
+      record {
+        room = owned_length (firsts leaf) owners p ∙ before.room;
+        owned = λ j h.
+            owned_at (firsts leaf) owners p j (omega (arith, before.room))
+            ∙ ap (cond (some (eqb j) (firsts leaf)) p) (before.owned j h)
+            ∙ begins leaf e j;
+      }
+
+  pub leaf_turn : is_leaf t p ≡ true → FirstOwners t (p + 1) owners
+  leaf_turn e = first_turn true e
+
+  pub parent_turn : is_leaf t p ≡ false → FirstOwners t (p + 1) (set owners (entry t p).wait p)
+  parent_turn e = first_turn false e
 
 -- the second pass, before node i: its owner and those before are known, later ones as far as these nodes tell
 pub record Owning (t : List ℕ) (i : ℕ) (owners : List ℕ) : Type 0 where
@@ -219,13 +203,7 @@ owning_first t n owners whole first =
 pub owning_last : (t : List ℕ) (k : ℕ) (owners : List ℕ) → k ≤ 256 → Owning t k owners → Owners t k owners
 owning_last t k owners small last = record { room = omega (arith, last.room); owned = last.known }
 
--- two writes of one value
-two_writes : (x y : Bool) (v w : ℕ) → cond y v (cond x v w) ≡ cond (x || y) v w
-two_writes true true v w = refl
-two_writes true false v w = refl
-two_writes false y v w = refl
-
--- a turn of the second pass, in the code's words: two writes
+-- a turn of the second pass: the operands of node i become its owner's
 module _
     (t : List ℕ)
     (i k : ℕ)
@@ -233,40 +211,26 @@ module _
     (good : bad_operands (asks (node t i)) i k ≡ false)
     (owners : List ℕ)
     (before : Owning t i owners)
-    (e : Node)
-    (is : e ≡ node t i)
-    (o : ℕ)
-    (at : o ≡ byte_at owners i)
-    (x y : Bool)
-    (asked : x ≡ asks_node e)
-    (joined : y ≡ joins e)
-    (one two : List ℕ)
-    (first : one ≡ cond x (set owners e.a o) owners)
-    (second : two ≡ cond y (set one e.b o) one)
   where
-    one_room : length one ≡ 256
-    one_room = ap length first ∙ owned_length owners e.a o x ∙ before.room
+    abbrev holder : ℕ
+    holder = byte_at owners i
 
-    two_room : length two ≡ 256
-    two_room = ap length second ∙ owned_length one e.b o y ∙ one_room
+    abbrev next : List ℕ
+    next = owned_each owners holder (operands (asks (node t i)))
 
-    own_is : o ≡ owner t i
-    own_is = at ∙ before.later i (omega arith) small ∙ owner_by_lem t i
+    own_is : holder ≡ owner t i
+    own_is = before.later i (omega arith) small ∙ owner_by_lem t i
 
-    written : (j : ℕ) → j < 256 → byte_at two j ≡ cond (uses_node t j i) (owner t i) (byte_at owners j)
+    written : (j : ℕ) → j < 256 → byte_at next j ≡ cond (uses_node t j i) (owner t i) (byte_at owners j)
     written j h =
-        ap (λ (l : List ℕ). byte_at l j) second
-        ∙ owned_at one e.b o y j (omega (arith, one_room))
-        ∙ ap (λ (r : ℕ). cond (y && eqb j e.b) o r)
-        (ap (λ (l : List ℕ). byte_at l j) first ∙ owned_at owners e.a o x j (omega (arith, before.room)))
-        ∙ two_writes (x && eqb j e.a) (y && eqb j e.b) o (byte_at owners j)
-        ∙ rw (asked, joined, is, own_is) (rw (← operands_have (node t i) j) refl)
+        owned_at (operands (asks (node t i))) owners holder j (omega (arith, before.room))
+        ∙ ap (λ (v : ℕ). cond (uses_node t j i) v (byte_at owners j)) own_is
 
-    pub owning_turn : Owning t (i + 1) two
+    pub owning_turn : Owning t (i + 1) next
     owning_turn =
         rw (add-one i)
         record {
-          room = two_room;
+          room = owned_length (operands (asks (node t i))) owners holder ∙ before.room;
           known = λ j l. written j (omega arith) ∙ rw (uses_above t i k j good (omega arith)) (was j (ℕ_discrete j i) l);
           later = λ j l h. written j h ∙ rw (before.later j (omega arith) h) (sym (by_more t i j (uses_node t j i) refl));
         }
@@ -274,6 +238,24 @@ module _
         was : (j : ℕ) → Dec (j ≡ i) → j < suc i → byte_at owners j ≡ owner t j
         was j (yes q) l = rw q (before.later i (omega arith) small ∙ owner_by_lem t i)
         was j (no q) l = before.known j (omega arith)
+
+-- a good node is of a kind, and its operands are good
+first : (x y : Bool) → (x || y) ≡ false → x ≡ false
+first true y h = absurd (true≢false h)
+first false y h = refl
+
+middle : (x y z : Bool) → (x || y || z) ≡ false → y ≡ false
+middle true y z h = absurd (true≢false h)
+middle false true z h = absurd (true≢false h)
+middle false false z h = refl
+
+few_kinds : (t : List ℕ) (i : ℕ) → bad_node t i ≡ false → (node t i).kind ≤ 5
+unfolding bad_node bad_bytes
+few_kinds t i h = ltb-false 5 (node t i).kind (first _ _ (first _ _ (first _ _ (first _ _ h))))
+
+pub good_operands : (t : List ℕ) (k i : ℕ) → k ≡ node_count t → bad_node t i ≡ false → bad_operands (asks (node t i)) i k ≡ false
+unfolding bad_node
+good_operands t k i nodes h = rw nodes (middle (bad_bytes (node t i)) _ _ h)
 
 -- tests, as the search for who asks for too many joins them
 pub not_leb : (a b : ℕ) → not (leb a b) ≡ ltb b a
@@ -283,16 +265,30 @@ not_leb a b = go (leb a b) refl
     go true e = sym (le-ltb b a (leb-true a b e))
     go false e = sym (lt-ltb b a (leb-false a b e))
 
-all_three : (x y z : Bool) → ((x && y) && z) ≡ true → (x ≡ true) × (y ≡ true) × (z ≡ true)
-all_three true true true h = (refl, refl, refl)
-all_three true true false h = absurd (false≢true h)
-all_three true false z h = absurd (false≢true h)
-all_three false y z h = absurd (false≢true h)
+-- what a node asks, by its kind's number
+by_kind :
+    (P : ℕ → Asks → Type 0) (a b : ℕ)
+    → P 0 (Child a) → P 1 (Not a) → P 2 (Join And a b) → P 3 (Join Or a b) → P 4 (Join Xor a b) → ((k : ℕ) → P (suc (suc (suc (suc (suc k))))) (AtLeast a))
+    → (k : ℕ) → P k (get_or (Child a ∷ Not a ∷ Join And a b ∷ Join Or a b ∷ Join Xor a b ∷ []) k (AtLeast a))
+by_kind P a b h₀ h₁ h₂ h₃ h₄ h₅ zero = h₀
+by_kind P a b h₀ h₁ h₂ h₃ h₄ h₅ (suc zero) = h₁
+by_kind P a b h₀ h₁ h₂ h₃ h₄ h₅ (suc (suc zero)) = h₂
+by_kind P a b h₀ h₁ h₂ h₃ h₄ h₅ (suc (suc (suc zero))) = h₃
+by_kind P a b h₀ h₁ h₂ h₃ h₄ h₅ (suc (suc (suc (suc zero)))) = h₄
+by_kind P a b h₀ h₁ h₂ h₃ h₄ h₅ (suc (suc (suc (suc (suc k))))) = h₅ k
 
-one_lacks : (x y z : Bool) → y ≡ true → ((x && y) && z) ≡ false → (x && z) ≡ false
-one_lacks true true z e h = h
-one_lacks true false z e h = absurd (false≢true e)
-one_lacks false y z e h = refl
+beyond_is : (e : Node) (c : ℕ) → asks_beyond (asks e) c ≡ (eqb e.kind 0 && leb c e.a)
+beyond_is e c =
+    by_kind (λ k asked. asks_beyond asked c ≡ (eqb k 0 && leb c e.a)) e.a e.b refl refl refl refl refl
+    (λ k. ap (λ (b : Bool). b && leb c e.a) (sym (ne_eqb (suc (suc (suc (suc (suc k))))) 0 (λ q. omega arith)))) e.kind
+
+more_is : (e : Node) → e.kind ≤ 5 → (names : ℕ) → asks_more (asks e) names ≡ (eqb e.kind 5 && not (leb e.a (ones names)))
+more_is e few names =
+    by_kind (λ k asked. k ≤ 5 → asks_more asked names ≡ (eqb k 5 && not (leb e.a (ones names)))) e.a e.b (λ l. refl) (λ l. refl) (λ l. refl)
+    (λ l. refl)
+    (λ l. refl)
+    (λ k l. ap (λ (b : Bool). b && not (leb e.a (ones names))) (sym (eq-eqb (suc (suc (suc (suc (suc k))))) 5 (omega arith))))
+    e.kind few
 
 -- the lower of two, as the code takes it
 lower_is : (r : Option ℕ) (o x : ℕ) → MatchOption r (x ≡ o) (λ q. x ≡ min q o) → lower r (Some o) ≡ Some x
@@ -312,13 +308,12 @@ module _
     (known : Owners t k owners)
     (i : ℕ)
     (inside : i < k)
-    (e : Node)
-    (is : e ≡ node t i)
-    (o : ℕ)
-    (at : o ≡ byte_at owners i)
   where
+    abbrev o : ℕ
+    o = byte_at owners i
+
     owner_is : o ≡ owner t i
-    owner_is = at ∙ known.owned i inside
+    owner_is = known.owned i inside
 
     pub owner_plan : o < n
     owner_plan = omega (arith, owner_is, nodes.whole, owner_lt t (omega (arith, nodes.some, nodes.whole)) i)
@@ -326,23 +321,23 @@ module _
     -- what the search for a bad rank tests
     pub bad_rank_is :
         (counts : List ℕ) → ((q : ℕ) → q < n → byte_at counts q ≡ length (children t q))
-        → (eqb e.kind 0 && leb (byte_at counts o) e.a) ≡ bad_rank t i
+        → asks_beyond (asks (node t i)) (byte_at counts o) ≡ bad_rank t i
     unfolding bad_rank
-    bad_rank_is counts counted = rw (counted o owner_plan, is, owner_is)
+    bad_rank_is counts counted = beyond_is (node t i) _ ∙ rw (counted o owner_plan, owner_is) refl
 
     -- and what that for the lowest plan that asks for too many tests
     pub too_many_is :
-        (names : List ℕ) → ((q : ℕ) → q < n → get_or names q 0 ≡ set_of t q (λ c. named (entry t c)))
-        → (enough : Bool) → enough ≡ leb e.a (ones (get_or names o 0))
-        → (eqb e.kind 5 && not enough) ≡ asks_too_many t (owner t i) i
+        bad_node t i ≡ false → (names : List ℕ) → ((q : ℕ) → q < n → get_or names q 0 ≡ set_of t q (λ c. named (entry t c)))
+        → asks_more (asks (node t i)) (get_or names o 0) ≡ asks_too_many t (owner t i) i
     unfolding asks_too_many too_many
-    too_many_is names collected enough says =
+    too_many_is good names collected =
+        let e : Node = node t i in
         let many =
-        ap not says
-        ∙ not_leb e.a (ones (get_or names o 0))
+        not_leb e.a (ones (get_or names o 0))
         ∙ ap (λ (x : ℕ). ltb x e.a) (ap ones (collected o owner_plan) ∙ set_ones t o (λ c. named (entry t c)))
         in
-        rw (eq-eqb (owner t i) (owner t i) refl) (rw many (rw (is, owner_is) refl))
+        more_is e (few_kinds t i good) (get_or names o 0)
+        ∙ rw (eq-eqb (owner t i) (owner t i) refl) (rw many (rw owner_is refl))
 
     -- after node i the lowest plan that asks for too many is its owner, if that does and none below was found before
     asks_other : (p : ℕ) → (owner t i ≡ p → ⊥) → asks_too_many t p i ≡ false
@@ -371,16 +366,6 @@ module _
 pub asking_none : (t : List ℕ) (n : ℕ) → Lowest (asking t 0) n None
 unfolding some_below
 asking_none t n = λ p l. refl
-
--- a good node's operands are good
-middle : (x y z : Bool) → (x || y || z) ≡ false → y ≡ false
-middle true y z h = absurd (true≢false h)
-middle false true z h = absurd (true≢false h)
-middle false false z h = refl
-
-pub good_operands : (t : List ℕ) (k i : ℕ) → k ≡ node_count t → bad_node t i ≡ false → bad_operands (asks (node t i)) i k ≡ false
-unfolding bad_node
-good_operands t k i nodes h = rw nodes (middle (bad_bytes (node t i)) _ _ h)
 
 -- a plan's wait is bad if a node asks for too many in its formula
 wait_is : (t : List ℕ) (n k : ℕ) → HasNodes t n k → (p : ℕ) → bad_wait t p ≡ asking t k p

@@ -1,7 +1,0 @@
--- The loop of `own_asked`: the owners of the nodes below i are known, and of those above as far as these tell.
-use Rattle.std.proofs.Common.{◌≤◌}
-use Rattle.nodes.proofs.Owners.{Owning}
-use Rattle.nodes.proofs.own_asked.Given as goal
-
-abbrev pub invariant-loop-i : goal.invariant-loop-i
-invariant-loop-i l = (l.i ≤ l.k) × Owning l.table l.i l.owners
