@@ -4,13 +4,11 @@ use Prim.Native.Nat.{ℕ, zero, suc, ◌+◌, ◌*◌, ◌≤◌, ◌<◌}
 use native.Mathlib.Omega.{arith}
 use native.Mathlib.Numerals.{add-one}
 use mathlib.Core.Path.{◌≡◌, refl, sym, ap, ◌∙◌}
-use mathlib.Core.Bool.{Bool, true, false, ◌&&◌, true≢false}
 use mathlib.Core.Logic.{◌⊎◌, inl, inr}
 use mathlib.Core.List.{List, ◌∷◌}
-use lib.Dec.{eqb, ltb}
 use lib.ListN.{length, take, drop, replicate, length-drop, length-replicate}
 use lib.Seq.{length-take-le, get_or-take}
-use borrow.Author.Tests.{eqb-true, eq-eqb, ltb-true, ltb-false}
+use Rattle.rules.specs.Lists.{least}
 use Rattle.rules.specs.Bytes.{byte_at}
 use Rattle.rules.specs.States.{code}
 use Rattle.rules.specs.Table.{plan_count}
@@ -23,7 +21,7 @@ use Rattle.rules.proofs.Outcomes.{pass_at_last, stop_at_last}
 use Rattle.rules.proofs.Tree.{passes, tree}
 use Rattle.children.specs.Sets.{Surveyed}
 use Rattle.lowest.specs.Lowest.{Lowest}
-use Rattle.table.proofs.Reading.{found_at, found_none}
+use Rattle.table.proofs.Reading.{found_is}
 use Rattle.family.specs.StepFacts.{picks_of}
 use Rattle.lent.specs.Calls.{MayMove}
 use Rattle.demands.specs.Witness.{witness}
@@ -35,7 +33,7 @@ use Rattle.demands.proofs.PlanByPlan.{unexplained as no_picks}
 use Rattle.parts.specs.OneStep.{Lies, Witnessed}
 use Rattle.record.specs.Sound.{Sound}
 use Rattle.record.proofs.Form.{few, lies}
-use Rattle.std.specs.Prelude.{Ok, Err}
+use Rattle.std.specs.Prelude.{Option, Ok, Err, Some, None}
 
 -- the first k bytes of a buffer of zeros
 pub idle_part : (k m a : ℕ) → k ≤ m → take k (replicate m a) ≡ replicate k a
@@ -61,22 +59,6 @@ module _ {rule : ℕ} {t r ranks names : List ℕ} (sound : Sound rule t r ranks
 
   pub idle_surveyed : (sets : List ℕ) → Surveyed t (take n (replicate 256 (code Inactive))) n sets → Surveyed t (states_before t r 0) n sets
   idle_surveyed sets surveyed = rw idle_states at surveyed
-
--- the search among the plans of a step goes on only where no word is wrong
-pub record Going (wrong n p : ℕ) : Type 0 where
-  pub right : wrong ≡ n
-  pub inside : p < n
-
-pub going : (wrong n p : ℕ) → (eqb wrong n && ltb p n) ≡ true → Going wrong n p
-going wrong n p = go (eqb wrong n) (ltb p n) refl refl
-  where
-    go : (a b : Bool) → eqb wrong n ≡ a → ltb p n ≡ b → (a && b) ≡ true → Going wrong n p
-    go true true ea eb e = record { right = eqb-true wrong n ea; inside = ltb-true p n eb }
-    go true false ea eb e = absurd (true≢false (sym e))
-    go false b ea eb e = absurd (true≢false (sym e))
-
-pub gone : (wrong n p : ℕ) → wrong ≡ n → (eqb wrong n && ltb p n) ≡ false → n ≤ p
-gone wrong n p e left = ltb-false p n (rw (eq-eqb wrong n e) at left)
 
 -- a part of a list that has it is as long as it says
 part_long : (r : List ℕ) (from long : ℕ) → from + long ≤ length r → length (take long (drop from r)) ≡ long
@@ -147,19 +129,22 @@ module _ {rule : ℕ} {t r ranks names : List ℕ} {n steps i : ℕ} (here : Her
   next_surveyed shown sets is_shown surveyed = rw (add-one i) (rw is_shown at surveyed)
 
   -- check 12
-  module _ (words : List ℕ) (is_words : words ≡ words_of t r i) (p : ℕ) (lowest : Lowest (bad_record_word t words) n p) where
-    lowest_word : Lowest (bad_record_word t (words_of t r i)) n p
-    lowest_word = rw is_words at lowest
+  module _
+      (words : List ℕ)
+      (is_words : words ≡ words_of t r i)
+      (wrong : Option ℕ)
+      (lowest : Lowest (bad_record_word t words) n wrong)
+    where
+      first_word : least (bad_record_word t (words_of t r i)) (plan_count t) ≡ wrong
+      first_word = found_is t n here.whole _ wrong (rw is_words at lowest)
 
-    pub stops_at_word : p < n → Judged rule t r (Err (Word (i + 1) p))
-    unfolding words_check
-    stops_at_word l =
-        rw (add-one i)
-        (bad_words i good inner here.before (stop_at_last _ _ p (found_at t n here.whole _ p lowest_word l)))
+      pub stops_at_word : (p : ℕ) → wrong ≡ Some p → Judged rule t r (Err (Word (i + 1) p))
+      unfolding words_check
+      stops_at_word p e = rw (add-one i) (bad_words i good inner here.before (stop_at_last _ _ p (first_word ∙ e)))
 
-    pub words_pass : n ≤ p → words_check t r i ≡ Done
-    unfolding words_check
-    words_pass l = pass_at_last _ _ (found_none t n here.whole _ p lowest_word l)
+      pub words_pass : wrong ≡ None → words_check t r i ≡ Done
+      unfolding words_check
+      words_pass e = pass_at_last _ _ (first_word ∙ e)
 
   -- check 15: the witness, whose picks are ranks
   pub picks_small : (old shown picks : List ℕ) → Witnessed t old shown picks → (q : ℕ) → q < n → picks_of picks q < 64

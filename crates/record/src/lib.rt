@@ -5,15 +5,15 @@
 ghost use Rattle.std.specs.Prelude.{◌≡◌, List, ℕ};
 ghost use Rattle.rules.specs.Table.{plan_count};
 ghost use Rattle.rules.specs.Record.{step_count};
-ghost use Rattle.rules.specs.Answers.{rule_check, wrong_header, Judged};
-ghost use Rattle.rules.specs.declared.Outcome.TheVariants.{Done};
+ghost use Rattle.rules.specs.Answers.{rule_check, wrong_header, Judged, Done};
 ghost use Rattle.table.specs.Facts.{Prepared};
 ghost use Rattle.record.specs.Sound.{Sound};
 
 use children::{resurvey, survey};
+use family::Scene;
 use parts::{find_picks, find_unused, lowest_wrong_word, states_before, states_of, words_of};
 use pass::advance;
-use reading::u16_at;
+use reading::{plan_count, u16_at};
 use rules::{PlanState, Refusal, is_rule};
 use table::{has_mark, read_table};
 
@@ -28,22 +28,20 @@ pub fn check(rule: u32, table: &[u8], record: &[u8]) -> Result<u16, Refusal>
     let mut ranks = [0u8; 256];
     let mut counts = [0u8; 256];
     let mut names = [0u64; 512];
-    match read_table(table, &mut ranks, &mut counts, &mut names) {
-        Err(why) => Err(why),
-        Ok(()) => check_record(rule, table, &ranks, &names, record),
-    }
+    read_table(table, &mut ranks, &mut counts, &mut names)?;
+    check_record(rule, table, &ranks, &names, record)
 }
 
 // The steps of a record of good form, one after the other, and in each its plans: the first step with a wrong word or with a plan that
 // no picks explain together with the plans before it. Document 01 asks for this form: nested loops over steps and plans, left by a label
-// with the first unexplained step and plan (the loops may be `for`s, and the place an Option; the label stays).
-fn check_steps(
+// with the first unexplained step and plan. One lifetime for all, since a scene has one.
+fn check_steps<'a>(
     rule: u32,
-    table: &[u8],
+    table: &'a [u8],
     n: usize,
-    ranks: &[u8],
-    names: &[u64],
-    record: &[u8],
+    ranks: &'a [u8],
+    names: &'a [u64],
+    record: &'a [u8],
     steps: usize,
 ) -> Result<u16, Refusal>
     requires sound { Sound rule table.now «record».now ranks.now names.now }
@@ -58,43 +56,43 @@ fn check_steps(
     let mut unused = [0u32; 256];
     survey(table, n, ranks, &idle[..n], &mut sets);
     find_unused(table, n, &mut unused);
-    let mut bad_step = 0;
-    let mut bad_plan = 0;
-    let mut i = 0;
-    'search: while i < steps {
+    let mut unexplained = None;
+    'search: for i in 0..steps {
+        let step = (i + 1) as u16;
         let words = words_of(record, n, i);
         let wrong = lowest_wrong_word(table, &unused, words, n);
+        // 12 comes before 15: no plan is compared in a step with a wrong word
+        if let Some(plan) = wrong {
+            let plan = plan as u16;
+            return Err(Refusal::Word { step, plan });
+        }
         let old = states_before(&idle, record, n, i);
         let shown = states_of(record, n, i);
         find_picks(table, n, ranks, old, shown, &mut picks, &mut kept);
-        advance(
-            rule, table, n, ranks, names, &sets, &picks, old, words, &mut new,
-        );
-        // 12 comes before 15: no plan is compared in a step with a wrong word
-        let mut p = 0;
-        while (wrong == n) & (p < n) {
+        let scene = Scene {
+            rule,
+            table,
+            n,
+            ranks,
+            names,
+            sets: &sets,
+            picks: &picks,
+            old,
+            words,
+        };
+        advance(&scene, &mut new);
+        for p in 0..n {
             if new[p] != shown[p] {
-                bad_step = i + 1;
-                bad_plan = p;
+                unexplained = Some((step, p as u16));
                 break 'search;
             }
-            p += 1;
-        }
-        if wrong < n {
-            let step = (i + 1) as u16;
-            let plan = wrong as u16;
-            return Err(Refusal::Word { step, plan });
         }
         resurvey(table, n, ranks, old, shown, &mut sets);
-        i += 1;
     }
-    if bad_step == 0 {
-        let count = steps as u16;
-        return Ok(count);
+    if let Some((step, plan)) = unexplained {
+        return Err(Refusal::Unexplained { step, plan });
     }
-    let step = bad_step as u16;
-    let plan = bad_plan as u16;
-    Err(Refusal::Unexplained { step, plan })
+    Ok(steps as u16)
 }
 
 // Check 13, for a table of n plans.
@@ -105,17 +103,23 @@ fn wrong_header(record: &[u8], n: usize) -> bool
         return true;
     }
     let version = u16_at(record, 3);
-    let plans = u16_at(record, 5) as usize;
+    let plans = usize::from(u16_at(record, 5));
     !has_mark(record, b'R') | (version != 1) | (plans != n) | (record[7] != 0)
 }
 
 // Checks 13 and 14 of a record, and then its steps, where rule number and table have passed.
-fn check_record(rule: u32, table: &[u8], ranks: &[u8], names: &[u64], record: &[u8]) -> Result<u16, Refusal>
+fn check_record(
+    rule: u32,
+    table: &[u8],
+    ranks: &[u8],
+    names: &[u64],
+    record: &[u8],
+) -> Result<u16, Refusal>
     requires ruled { rule_check rule ≡ Done }
     requires table { Prepared table.now ranks.now names.now }
     ensures { Judged rule table.now «record».now result }
 {
-    let n = u16_at(table, 5) as usize;
+    let n = plan_count(table);
     if wrong_header(record, n) {
         return Err(Refusal::RecordHeader);
     }

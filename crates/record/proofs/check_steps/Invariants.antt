@@ -1,5 +1,6 @@
 -- The loops of `check_steps`: the steps before i pass, and the plans before p are as shown.
-use Rattle.std.proofs.Common.{◌≡◌, List, ℕ, ◌-◌, ◌<◌, ◌≤◌, length}
+use Rattle.std.proofs.Common.{◌≡◌, List, ℕ, ◌<◌, length}
+use Rattle.std.specs.Prelude.{Option, None}
 use Rattle.rules.specs.Bytes.{byte_at}
 use Rattle.rules.specs.Record.{states_before}
 use Rattle.rules.specs.Answers.{StepPasses}
@@ -8,15 +9,11 @@ use Rattle.record.proofs.check_steps.Given as goal
 
 -- among the plans of a step: those before p are as shown
 abbrev pub invariant-loop-p : goal.invariant-loop-p
-invariant-loop-p l = (l.p ≤ l.n) × (l.bad_step ≡ 0) × ((k : ℕ) → k < l.p → byte_at l.new k ≡ byte_at l.shown k)
-
-abbrev pub decreases-loop-p : goal.decreases-loop-p
-decreases-loop-p l = l.n - l.p
+invariant-loop-p l = (l.unexplained ≡ None) × ((k : ℕ) → k < l.p → byte_at l.new k ≡ byte_at l.shown k)
 
 -- among the steps: those before i pass
-pub record Passed (rule : ℕ) (t r : List ℕ) (n steps : ℕ) (sets picks kept new : List ℕ) (bad_step i : ℕ) : Type 0 where
-  pub within : i ≤ steps
-  pub none_bad : bad_step ≡ 0
+pub record Passed (rule : ℕ) (t r : List ℕ) (n : ℕ) (sets picks kept new : List ℕ) (unexplained : Option (ℕ × ℕ)) (i : ℕ) : Type 0 where
+  pub none : unexplained ≡ None
   pub sets_long : length sets ≡ 2304
   pub picks_long : length picks ≡ 256
   pub kept_long : length kept ≡ 256
@@ -25,7 +22,4 @@ pub record Passed (rule : ℕ) (t r : List ℕ) (n steps : ℕ) (sets picks kept
   pub surveyed : Surveyed t (states_before t r i) n sets
 
 abbrev pub invariant-search : goal.invariant-search
-invariant-search l = Passed l.rule l.table l.«record» l.n l.steps l.sets l.picks l.kept l.new l.bad_step l.i
-
-abbrev pub decreases-search : goal.decreases-search
-decreases-search l = l.steps - l.i
+invariant-search l = Passed l.rule l.table l.«record» l.n l.sets l.picks l.kept l.new l.unexplained l.i
