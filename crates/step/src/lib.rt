@@ -37,14 +37,11 @@ pub fn step(
     ensures told { causes.new ≡ step_causes rule table.now states.old words.now
         causes.old }
 {
-    let n = plans_told(table);
-    if n <= 16 {
-        return step_in::<16, 32, 144>(rule, table, states, words, causes);
+    match plans_told(table) {
+        0..=16 => step_in::<16, 32, 144>(rule, table, states, words, causes),
+        17..=64 => step_in::<64, 128, 576>(rule, table, states, words, causes),
+        _ => step_in::<256, 512, 2304>(rule, table, states, words, causes),
     }
-    if n <= 64 {
-        return step_in::<64, 128, 576>(rule, table, states, words, causes);
-    }
-    step_in::<256, 512, 2304>(rule, table, states, words, causes)
 }
 
 // Steps by a rule under held words until one more step changes nothing, or until the budget is used, with the causes of the last step
@@ -77,7 +74,7 @@ pub fn rest(
         &mut counts,
         &mut names,
     )?;
-    settle(rule, table, &ranks, &names, states, words, causes, budget)
+    Ok(settle(rule, table, &ranks, &names, states, words, causes, budget))
 }
 
 // How many plans the header of a table tells; none where it is short.
@@ -198,12 +195,12 @@ fn settle(
     words: &[u8],
     causes: &mut [u8],
     budget: u16,
-) -> Result<Option<u16>, Refusal>
+) -> Option<u16>
     requires moves { MayMove table.now states.old words.now ranks.now names.now }
     requires words { BranchesAgree table.now words.now }
     requires told { length causes.old ≡ length states.old }
     ensures { Ran rule table.now states.old words.now budget
-        result states.new causes.new }
+        (Ok result) states.new causes.new }
 {
     let n = states.len();
     let mut sets = [0u64; 2304];
@@ -213,8 +210,7 @@ fn settle(
     take_picks(words, n, &mut picks);
     // no step so far: every plan is where it was
     tell_causes(table, states, words, states, causes);
-    let mut k = 0u16;
-    loop {
+    for k in 0..=budget {
         let scene = Scene {
             rule,
             table,
@@ -228,13 +224,12 @@ fn settle(
         };
         advance(&scene, &mut new);
         if unchanged(&new, states) {
-            return Ok(Some(k));
+            return Some(k);
         }
-        if k == budget {
-            return Ok(None);
+        if k < budget {
+            resurvey(table, n, ranks, states, &new[..n], &mut sets);
+            take_step(table, words, &new, states, causes);
         }
-        resurvey(table, n, ranks, states, &new[..n], &mut sets);
-        take_step(table, words, &new, states, causes);
-        k += 1;
     }
+    None
 }

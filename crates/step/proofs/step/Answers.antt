@@ -11,10 +11,10 @@ counted : (t : List ℕ) (n : ℕ) → n ≡ cond (ltb (length t) 8) 0 (plan_cou
 counted t n e good = e ∙ ap (λ (b : Bool). cond b 0 (plan_count t)) (le-ltb _ _ (header t good).room)
 
 pub step_in-requires-clause-room : goal.step_in-requires-clause-room
-step_in-requires-clause-room c = λ good. omega (arith, c.if-n-le16.true, counted _ _ c.plans_told-n.ensures good)
+step_in-requires-clause-room c = λ good. omega (arith, counted _ _ c.plans_told.ensures good)
 
-pub step_in-requires-then-n-le64-clause-room : goal.step_in-requires-then-n-le64-clause-room
-step_in-requires-then-n-le64-clause-room c = λ good. omega (arith, c.if-n-le64.true, counted _ _ c.plans_told-n.ensures good)
+pub step_in-requires-in-17-to-64-clause-room : goal.step_in-requires-in-17-to-64-clause-room
+step_in-requires-in-17-to-64-clause-room c = λ good. omega (arith, counted _ _ c.plans_told.ensures good)
 
-pub step_in-requires-2-clause-room : goal.step_in-requires-2-clause-room
-step_in-requires-2-clause-room c = λ good. (header _ good).small
+pub step_in-requires-in_default-clause-room : goal.step_in-requires-in_default-clause-room
+step_in-requires-in_default-clause-room c = λ good. (header _ good).small

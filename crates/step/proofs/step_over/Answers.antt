@@ -6,23 +6,12 @@ use Rattle.pass.proofs.Causes.{told_after_step}
 use Rattle.pass.proofs.StepFacts.{known_names, may_survey, step_facts, may_take, taken_small, taken_step}
 use Rattle.step.proofs.step_over.Goals as goal
 
-pub survey-requires-clause-rooted : goal.survey-requires-clause-rooted
-survey-requires-clause-rooted c =
+pub survey-requires : goal.survey-requires
+survey-requires c =
     let moves = c.requires.moves in
     let room = c.requires.room in
-    (may_survey _ _ _ _ _ moves _ moves.passes.long c.args.sets.now room.sets_room room.empty).0
-
-pub survey-requires-clause-narrow : goal.survey-requires-clause-narrow
-survey-requires-clause-narrow c =
-    let moves = c.requires.moves in
-    let room = c.requires.room in
-    (may_survey _ _ _ _ _ moves _ moves.passes.long c.args.sets.now room.sets_room room.empty).1.0
-
-pub survey-requires-clause-codes : goal.survey-requires-clause-codes
-survey-requires-clause-codes c =
-    let moves = c.requires.moves in
-    let room = c.requires.room in
-    (may_survey _ _ _ _ _ moves _ moves.passes.long c.args.sets.now room.sets_room room.empty).1.1.0
+    let may = may_survey _ _ _ _ _ moves _ moves.passes.long c.args.sets.now room.sets_room room.empty in
+    record { rooted = may.0; narrow = may.1.0; codes = may.1.1.0; room = may.1.1.1.0; empty = may.1.1.1.1 }
 
 pub advance-requires-clause-facts : goal.advance-requires-clause-facts
 advance-requires-clause-facts c =
