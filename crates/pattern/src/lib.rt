@@ -105,7 +105,7 @@ fn sample(x: u64) -> u64
 fn in_range(v: u64) -> bool
     ensures { result ≡ in_range v }
 {
-    (FIRST <= v) & (v <= LAST)
+    (FIRST..=LAST).contains(&v)
 }
 
 // Whether a bound is in range.
@@ -212,6 +212,7 @@ struct Bounds {
     ghost small: { SmallWindow window },
 }
 
+// `Named` and `NamedPass` stay clauses: the definitions compute with passes and minutes of any size, so that no type keeps these facts.
 impl Bounds {
     // The window of an annotation whose reference point is there. An open bound lies before all minutes, or beyond all that are asked
     // about.
@@ -267,6 +268,7 @@ impl Bounds {
         ensures is { result ≡ next self.window pass t truth }
         ensures named { NamedPass result }
     {
+        // with `_ => pass` for the three cases that stay as they are it was slower: 2.5 ns a sample for 1.8
         match pass {
             Pass::Found { .. } => pass,
             Pass::Off if truth => Pass::Since(t),
@@ -369,7 +371,8 @@ fn smaller(x: Option<u64>, y: Option<u64>) -> Option<u64>
     }
 }
 
-// The difference of two bounds.
+// The difference of two bounds. (That these are near stays a clause here, of the sum and of `placed`: `NearAll` tells it of each bound of
+// an annotation, and a type of near bounds would only be made to be opened at once.)
 fn minus(x: Option<u64>, y: Option<u64>) -> Option<u64>
     requires { NearBound x × NearBound y }
     ensures { result ≡ minus x y }
