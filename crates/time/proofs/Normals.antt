@@ -11,75 +11,52 @@ use Rattle.time.specs.declared.Annotation.{Annotation}
 -- a bound and one that narrows it, against a minute or an interval: both hold exactly where the larger or smaller one does
 module _ (o r : ℕ) where
   larger_both : (x y : Option ℕ) (t : ℕ) → NotSooner o r x t → NotSooner o r y t → NotSooner o r (larger x y) t
-  larger_both None y t p q = q
-  larger_both (Some v) None t p q = p
-  larger_both (Some v) (Some w) t p q = omega arith
+  larger_both x y t p q = grind arith
 
   larger_first : (x y : Option ℕ) (t : ℕ) → NotSooner o r (larger x y) t → NotSooner o r x t
-  larger_first None y t p = tt
-  larger_first (Some v) None t p = p
-  larger_first (Some v) (Some w) t p = omega arith
+  larger_first x y t p = grind arith
 
   smaller_both : (x y : Option ℕ) (t : ℕ) → NotLater o r x t → NotLater o r y t → NotLater o r (smaller x y) t
-  smaller_both None y t p q = q
-  smaller_both (Some v) None t p q = p
-  smaller_both (Some v) (Some w) t p q = omega arith
+  smaller_both x y t p q = grind arith
 
   smaller_first : (x y : Option ℕ) (t : ℕ) → NotLater o r (smaller x y) t → NotLater o r x t
-  smaller_first None y t p = tt
-  smaller_first (Some v) None t p = p
-  smaller_first (Some v) (Some w) t p = omega arith
+  smaller_first x y t p = grind arith
 
 short_both : (x y : Option ℕ) (t1 t2 : ℕ) → NotLonger x t1 t2 → NotLonger y t1 t2 → NotLonger (smaller x y) t1 t2
-short_both None y t1 t2 p q = q
-short_both (Some v) None t1 t2 p q = p
-short_both (Some v) (Some w) t1 t2 p q = omega arith
+short_both x y t1 t2 p q = grind arith
 
 short_first : (x y : Option ℕ) (t1 t2 : ℕ) → NotLonger (smaller x y) t1 t2 → NotLonger x t1 t2
-short_first None y t1 t2 p = tt
-short_first (Some v) None t1 t2 p = p
-short_first (Some v) (Some w) t1 t2 p = omega arith
+short_first x y t1 t2 p = grind arith
 
 least_kept : (k : ℕ) (y : Option ℕ) → k ≤ larger_number k y
-least_kept k None = omega arith
-least_kept k (Some w) = omega arith
+least_kept k y = grind arith
 
 -- what each formula adds holds of an interval that is admitted
 module _ (o r t1 t2 k : ℕ) (long : t1 + k ≤ t2 + base) where
   ess_too :
       (efs greatest : Option ℕ) → NearBound efs → NearBound greatest → NotSooner o r efs t2 → NotLonger greatest t1 t2
       → NotSooner o r (minus efs greatest) t1
-  ess_too None greatest hx hy p q = tt
-  ess_too (Some v) None hx hy p q = tt
-  ess_too (Some v) (Some w) hx hy p q = omega arith
+  ess_too efs greatest hx hy p q = grind arith
 
   lss_too : (lfs : Option ℕ) → NearBound lfs → k ≤ 5000000000 → NotLater o r lfs t2 → NotLater o r (minus lfs (Some k)) t1
-  lss_too None hx l p = tt
-  lss_too (Some v) hx l p = omega arith
+  lss_too lfs hx l p = grind arith
 
   efs_too : (ess : Option ℕ) → NearBound ess → base ≤ k → NotSooner o r ess t1 → NotSooner o r (plus ess (Some k)) t2
-  efs_too None hx l p = tt
-  efs_too (Some v) hx l p = omega arith
+  efs_too ess hx l p = grind arith
 
   lfs_too :
       (lss greatest : Option ℕ) → NearBound lss → NearBound greatest → NotLater o r lss t1 → NotLonger greatest t1 t2
       → NotLater o r (plus lss greatest) t2
-  lfs_too None greatest hx hy p q = tt
-  lfs_too (Some v) None hx hy p q = tt
-  lfs_too (Some v) (Some w) hx hy p q = omega arith
+  lfs_too lss greatest hx hy p q = grind arith
 
   least_too :
       (efs lss : Option ℕ) → NearBound efs → NearBound lss → NotSooner o r efs t2 → NotLater o r lss t1
       → t1 + larger_number k (minus efs lss) ≤ t2 + base
-  least_too None lss hx hy p q = long
-  least_too (Some v) None hx hy p q = long
-  least_too (Some v) (Some w) hx hy p q = omega arith
+  least_too efs lss hx hy p q = grind arith
 
   greatest_too :
       (lfs ess : Option ℕ) → NearBound lfs → NearBound ess → NotLater o r lfs t2 → NotSooner o r ess t1 → NotLonger (minus lfs ess) t1 t2
-  greatest_too None ess hx hy p q = tt
-  greatest_too (Some v) None hx hy p q = tt
-  greatest_too (Some v) (Some w) hx hy p q = omega arith
+  greatest_too lfs ess hx hy p q = grind arith
 
 module _ (a : Annotation) (n : NearAll a) (o t1 t2 : ℕ) where
   abbrev r : ℕ
@@ -137,27 +114,13 @@ Over (Some w) None = ⊥
 Over (Some w) (Some v) = v ≤ w
 
 larger_keeps : (x y : Option ℕ) → Under y x → larger x y ≡ x
-larger_keeps None None p = refl
-larger_keeps None (Some w) p = absurd p
-larger_keeps (Some v) None p = refl
-larger_keeps (Some v) (Some w) p = ap Some (omega arith)
+larger_keeps x y p = grind arith
 
 smaller_keeps : (x y : Option ℕ) → Over y x → smaller x y ≡ x
-smaller_keeps None None p = refl
-smaller_keeps None (Some w) p = absurd p
-smaller_keeps (Some v) None p = refl
-smaller_keeps (Some v) (Some w) p = ap Some (omega arith)
+smaller_keeps x y p = grind arith
 
 number_keeps : (k : ℕ) (y : Option ℕ) → Under y (Some k) → larger_number k y ≡ k
-number_keeps k None p = refl
-number_keeps k (Some w) p = omega arith
-
--- a difference taken whole, for `omega` has few case splits to spend
-less_under : (x y z : ℕ) → x ≤ z + y → x - y ≤ z
-less_under x y z p = omega arith
-
-under_less : (x y z : ℕ) → x + y ≤ z → x ≤ z - y
-under_less x y z p = omega arith
+number_keeps k y p = grind arith
 
 -- each formula over the normal bounds adds nothing, where some interval is admitted
 module _ (o r t1 t2 k : ℕ) (low : base ≤ k) (small : k ≤ 5000000000) (long : t1 + k ≤ t2 + base) where
@@ -165,149 +128,37 @@ module _ (o r t1 t2 k : ℕ) (low : base ≤ k) (small : k ≤ 5000000000) (long
       (ess efs lfs greatest : Option ℕ) → NearBound ess → NearBound efs → NearBound lfs → NearBound greatest
       → NotSooner o r ess t1 → NotSooner o r efs t2 → NotLater o r lfs t2 → NotLonger greatest t1 t2
       → Under (minus (larger efs (plus ess (Some k))) (smaller greatest (minus lfs ess))) (larger ess (minus efs greatest))
-  ess_again None None None None hs he hf hd ps pe pf pd = omega arith
-  ess_again None None None (Some d) hs he hf hd ps pe pf pd = omega arith
-  ess_again None None (Some f) None hs he hf hd ps pe pf pd = omega arith
-  ess_again None None (Some f) (Some d) hs he hf hd ps pe pf pd = omega arith
-  ess_again None (Some e) None None hs he hf hd ps pe pf pd = omega arith
-  ess_again None (Some e) None (Some d) hs he hf hd ps pe pf pd = omega arith
-  ess_again None (Some e) (Some f) None hs he hf hd ps pe pf pd = omega arith
-  ess_again None (Some e) (Some f) (Some d) hs he hf hd ps pe pf pd = omega arith
-  ess_again (Some s) None None None hs he hf hd ps pe pf pd = omega arith
-  ess_again (Some s) None None (Some d) hs he hf hd ps pe pf pd = omega arith
-  ess_again (Some s) None (Some f) None hs he hf hd ps pe pf pd = omega arith
-  ess_again (Some s) None (Some f) (Some d) hs he hf hd ps pe pf pd = omega arith
-  ess_again (Some s) (Some e) None None hs he hf hd ps pe pf pd = omega arith
-  ess_again (Some s) (Some e) None (Some d) hs he hf hd ps pe pf pd = omega arith
-  ess_again (Some s) (Some e) (Some f) None hs he hf hd ps pe pf pd = omega arith
-  ess_again (Some s) (Some e) (Some f) (Some d) hs he hf hd ps pe pf pd =
-      less_under (max e (s + k - base) + base) (min d (f + base - s)) (max s (e + base - d)) (omega arith)
+  ess_again ess efs lfs greatest hs he hf hd ps pe pf pd = grind arith
 
   lss_again :
       (lss lfs efs greatest : Option ℕ) → NearBound lss → NearBound lfs → NearBound efs → NearBound greatest
       → NotLater o r lss t1 → NotLater o r lfs t2 → NotSooner o r efs t2 → NotLonger greatest t1 t2
       → Over (minus (smaller lfs (plus lss greatest)) (Some (larger_number k (minus efs lss)))) (smaller lss (minus lfs (Some k)))
-  lss_again None None None None hl hf he hd pl pf pe pd = omega arith
-  lss_again None None None (Some d) hl hf he hd pl pf pe pd = omega arith
-  lss_again None None (Some e) None hl hf he hd pl pf pe pd = omega arith
-  lss_again None None (Some e) (Some d) hl hf he hd pl pf pe pd = omega arith
-  lss_again None (Some f) None None hl hf he hd pl pf pe pd = omega arith
-  lss_again None (Some f) None (Some d) hl hf he hd pl pf pe pd = omega arith
-  lss_again None (Some f) (Some e) None hl hf he hd pl pf pe pd = omega arith
-  lss_again None (Some f) (Some e) (Some d) hl hf he hd pl pf pe pd = omega arith
-  lss_again (Some l) None None None hl hf he hd pl pf pe pd = omega arith
-  lss_again (Some l) None None (Some d) hl hf he hd pl pf pe pd = omega arith
-  lss_again (Some l) None (Some e) None hl hf he hd pl pf pe pd = omega arith
-  lss_again (Some l) None (Some e) (Some d) hl hf he hd pl pf pe pd = omega arith
-  lss_again (Some l) (Some f) None None hl hf he hd pl pf pe pd = omega arith
-  lss_again (Some l) (Some f) None (Some d) hl hf he hd pl pf pe pd = omega arith
-  lss_again (Some l) (Some f) (Some e) None hl hf he hd pl pf pe pd = omega arith
-  lss_again (Some l) (Some f) (Some e) (Some d) hl hf he hd pl pf pe pd =
-      under_less (min l (f + base - k)) (max k (e + base - l)) (min f (l + d - base) + base) (omega arith)
+  lss_again lss lfs efs greatest hl hf he hd pl pf pe pd = grind arith
 
   efs_again :
       (ess efs greatest lss : Option ℕ) → NearBound ess → NearBound efs → NearBound greatest → NearBound lss
       → NotSooner o r ess t1 → NotSooner o r efs t2 → NotLonger greatest t1 t2 → NotLater o r lss t1
       → Under (plus (larger ess (minus efs greatest)) (Some (larger_number k (minus efs lss)))) (larger efs (plus ess (Some k)))
-  efs_again None None None None hs he hd hl ps pe pd pl = omega arith
-  efs_again None None None (Some l) hs he hd hl ps pe pd pl = omega arith
-  efs_again None None (Some d) None hs he hd hl ps pe pd pl = omega arith
-  efs_again None None (Some d) (Some l) hs he hd hl ps pe pd pl = omega arith
-  efs_again None (Some e) None None hs he hd hl ps pe pd pl = omega arith
-  efs_again None (Some e) None (Some l) hs he hd hl ps pe pd pl = omega arith
-  efs_again None (Some e) (Some d) None hs he hd hl ps pe pd pl = omega arith
-  efs_again None (Some e) (Some d) (Some l) hs he hd hl ps pe pd pl = omega arith
-  efs_again (Some s) None None None hs he hd hl ps pe pd pl = omega arith
-  efs_again (Some s) None None (Some l) hs he hd hl ps pe pd pl = omega arith
-  efs_again (Some s) None (Some d) None hs he hd hl ps pe pd pl = omega arith
-  efs_again (Some s) None (Some d) (Some l) hs he hd hl ps pe pd pl = omega arith
-  efs_again (Some s) (Some e) None None hs he hd hl ps pe pd pl = omega arith
-  efs_again (Some s) (Some e) None (Some l) hs he hd hl ps pe pd pl = omega arith
-  efs_again (Some s) (Some e) (Some d) None hs he hd hl ps pe pd pl = omega arith
-  efs_again (Some s) (Some e) (Some d) (Some l) hs he hd hl ps pe pd pl =
-      less_under (max s (e + base - d) + max k (e + base - l)) base (max e (s + k - base)) (omega arith)
+  efs_again ess efs greatest lss hs he hd hl ps pe pd pl = grind arith
 
   lfs_again :
       (lss lfs greatest ess : Option ℕ) → NearBound lss → NearBound lfs → NearBound greatest → NearBound ess
       → NotLater o r lss t1 → NotLater o r lfs t2 → NotLonger greatest t1 t2 → NotSooner o r ess t1
       → Over (plus (smaller lss (minus lfs (Some k))) (smaller greatest (minus lfs ess))) (smaller lfs (plus lss greatest))
-  lfs_again None None None None hl hf hd hs pl pf pd ps = omega arith
-  lfs_again None None None (Some s) hl hf hd hs pl pf pd ps = omega arith
-  lfs_again None None (Some d) None hl hf hd hs pl pf pd ps = omega arith
-  lfs_again None None (Some d) (Some s) hl hf hd hs pl pf pd ps = omega arith
-  lfs_again None (Some f) None None hl hf hd hs pl pf pd ps = omega arith
-  lfs_again None (Some f) None (Some s) hl hf hd hs pl pf pd ps = omega arith
-  lfs_again None (Some f) (Some d) None hl hf hd hs pl pf pd ps = omega arith
-  lfs_again None (Some f) (Some d) (Some s) hl hf hd hs pl pf pd ps = omega arith
-  lfs_again (Some l) None None None hl hf hd hs pl pf pd ps = omega arith
-  lfs_again (Some l) None None (Some s) hl hf hd hs pl pf pd ps = omega arith
-  lfs_again (Some l) None (Some d) None hl hf hd hs pl pf pd ps = omega arith
-  lfs_again (Some l) None (Some d) (Some s) hl hf hd hs pl pf pd ps = omega arith
-  lfs_again (Some l) (Some f) None None hl hf hd hs pl pf pd ps = omega arith
-  lfs_again (Some l) (Some f) None (Some s) hl hf hd hs pl pf pd ps = omega arith
-  lfs_again (Some l) (Some f) (Some d) None hl hf hd hs pl pf pd ps = omega arith
-  lfs_again (Some l) (Some f) (Some d) (Some s) hl hf hd hs pl pf pd ps =
-      under_less (min f (l + d - base)) base (min l (f + base - k) + min d (f + base - s)) (omega arith)
+  lfs_again lss lfs greatest ess hl hf hd hs pl pf pd ps = grind arith
 
   least_again :
       (efs lss ess lfs : Option ℕ) → NearBound efs → NearBound lss → NearBound ess → NearBound lfs
       → NotSooner o r efs t2 → NotLater o r lss t1 → NotSooner o r ess t1 → NotLater o r lfs t2
       → Under (minus (larger efs (plus ess (Some k))) (smaller lss (minus lfs (Some k)))) (Some (larger_number k (minus efs lss)))
-  least_again None None None None he hl hs hf pe pl ps pf = omega arith
-  least_again None None None (Some f) he hl hs hf pe pl ps pf = omega arith
-  least_again None None (Some s) None he hl hs hf pe pl ps pf = omega arith
-  least_again None None (Some s) (Some f) he hl hs hf pe pl ps pf = omega arith
-  least_again None (Some l) None None he hl hs hf pe pl ps pf = omega arith
-  least_again None (Some l) None (Some f) he hl hs hf pe pl ps pf = omega arith
-  least_again None (Some l) (Some s) None he hl hs hf pe pl ps pf = omega arith
-  least_again None (Some l) (Some s) (Some f) he hl hs hf pe pl ps pf = omega arith
-  least_again (Some e) None None None he hl hs hf pe pl ps pf = omega arith
-  least_again (Some e) None None (Some f) he hl hs hf pe pl ps pf = omega arith
-  least_again (Some e) None (Some s) None he hl hs hf pe pl ps pf = omega arith
-  least_again (Some e) None (Some s) (Some f) he hl hs hf pe pl ps pf = omega arith
-  least_again (Some e) (Some l) None None he hl hs hf pe pl ps pf = omega arith
-  least_again (Some e) (Some l) None (Some f) he hl hs hf pe pl ps pf = omega arith
-  least_again (Some e) (Some l) (Some s) None he hl hs hf pe pl ps pf = omega arith
-  least_again (Some e) (Some l) (Some s) (Some f) he hl hs hf pe pl ps pf =
-      less_under (max e (s + k - base) + base) (min l (f + base - k)) (max k (e + base - l)) (omega arith)
+  least_again efs lss ess lfs he hl hs hf pe pl ps pf = grind arith
 
   greatest_again :
       (greatest lfs ess lss efs : Option ℕ) → NearBound greatest → NearBound lfs → NearBound ess → NearBound lss → NearBound efs
       → NotLonger greatest t1 t2 → NotLater o r lfs t2 → NotSooner o r ess t1 → NotLater o r lss t1 → NotSooner o r efs t2
       → Over (minus (smaller lfs (plus lss greatest)) (larger ess (minus efs greatest))) (smaller greatest (minus lfs ess))
-  greatest_again None None None None None hd hf hs hl he pd pf ps pl pe = omega arith
-  greatest_again None None None None (Some e) hd hf hs hl he pd pf ps pl pe = omega arith
-  greatest_again None None None (Some l) None hd hf hs hl he pd pf ps pl pe = omega arith
-  greatest_again None None None (Some l) (Some e) hd hf hs hl he pd pf ps pl pe = omega arith
-  greatest_again None None (Some s) None None hd hf hs hl he pd pf ps pl pe = omega arith
-  greatest_again None None (Some s) None (Some e) hd hf hs hl he pd pf ps pl pe = omega arith
-  greatest_again None None (Some s) (Some l) None hd hf hs hl he pd pf ps pl pe = omega arith
-  greatest_again None None (Some s) (Some l) (Some e) hd hf hs hl he pd pf ps pl pe = omega arith
-  greatest_again None (Some f) None None None hd hf hs hl he pd pf ps pl pe = omega arith
-  greatest_again None (Some f) None None (Some e) hd hf hs hl he pd pf ps pl pe = omega arith
-  greatest_again None (Some f) None (Some l) None hd hf hs hl he pd pf ps pl pe = omega arith
-  greatest_again None (Some f) None (Some l) (Some e) hd hf hs hl he pd pf ps pl pe = omega arith
-  greatest_again None (Some f) (Some s) None None hd hf hs hl he pd pf ps pl pe = omega arith
-  greatest_again None (Some f) (Some s) None (Some e) hd hf hs hl he pd pf ps pl pe = omega arith
-  greatest_again None (Some f) (Some s) (Some l) None hd hf hs hl he pd pf ps pl pe = omega arith
-  greatest_again None (Some f) (Some s) (Some l) (Some e) hd hf hs hl he pd pf ps pl pe = omega arith
-  greatest_again (Some d) None None None None hd hf hs hl he pd pf ps pl pe = omega arith
-  greatest_again (Some d) None None None (Some e) hd hf hs hl he pd pf ps pl pe = omega arith
-  greatest_again (Some d) None None (Some l) None hd hf hs hl he pd pf ps pl pe = omega arith
-  greatest_again (Some d) None None (Some l) (Some e) hd hf hs hl he pd pf ps pl pe = omega arith
-  greatest_again (Some d) None (Some s) None None hd hf hs hl he pd pf ps pl pe = omega arith
-  greatest_again (Some d) None (Some s) None (Some e) hd hf hs hl he pd pf ps pl pe = omega arith
-  greatest_again (Some d) None (Some s) (Some l) None hd hf hs hl he pd pf ps pl pe = omega arith
-  greatest_again (Some d) None (Some s) (Some l) (Some e) hd hf hs hl he pd pf ps pl pe = omega arith
-  greatest_again (Some d) (Some f) None None None hd hf hs hl he pd pf ps pl pe = omega arith
-  greatest_again (Some d) (Some f) None None (Some e) hd hf hs hl he pd pf ps pl pe = omega arith
-  greatest_again (Some d) (Some f) None (Some l) None hd hf hs hl he pd pf ps pl pe = omega arith
-  greatest_again (Some d) (Some f) None (Some l) (Some e) hd hf hs hl he pd pf ps pl pe = omega arith
-  greatest_again (Some d) (Some f) (Some s) None None hd hf hs hl he pd pf ps pl pe = omega arith
-  greatest_again (Some d) (Some f) (Some s) None (Some e) hd hf hs hl he pd pf ps pl pe = omega arith
-  greatest_again (Some d) (Some f) (Some s) (Some l) None hd hf hs hl he pd pf ps pl pe = omega arith
-  greatest_again (Some d) (Some f) (Some s) (Some l) (Some e) hd hf hs hl he pd pf ps pl pe =
-      under_less (min d (f + base - s)) (max s (e + base - d)) (min f (l + d - base) + base) (omega arith)
+  greatest_again greatest lfs ess lss efs hd hf hs hl he pd pf ps pl pe = grind arith
 
 module _ (a : Annotation) (n : NearAll a) (o t1 t2 : ℕ) (m : Admits o a t1 t2) where
   abbrev r' : ℕ

@@ -35,21 +35,14 @@ module _ (o r t1 t2 k : ℕ) (under : t1 + (base + base) < r + o) (small : k ≤
     u2 efs = max (low efs base) (0 + k - base)
 
     no_ess : (x : Option ℕ) → NearBound x → NotSooner o r x t1 → low x base ≤ 0
-    no_ess None h p = omega arith
-    no_ess (Some v) h p = absurd (omega arith)
+    no_ess x h p = grind arith
 
     under_lfs : (x y : Option ℕ) → NearBound x → NearBound y → NotLater o r x t2 → NotSooner o r y t2 → u2 y ≤ high far x base
-    under_lfs None None hx hy p q = omega arith
-    under_lfs None (Some w) hx hy p q = omega arith
-    under_lfs (Some v) None hx hy p q = omega arith
-    under_lfs (Some v) (Some w) hx hy p q = omega arith
+    under_lfs x y hx hy p q = grind arith
 
     under_short :
         (d y : Option ℕ) → NearBound d → NearBound y → NotLonger d t1 t2 → NotSooner o r y t2 → u2 y + base ≤ 0 + high far d base
-    under_short None None hd hy p q = omega arith
-    under_short None (Some w) hd hy p q = omega arith
-    under_short (Some d) None hd hy p q = omega arith
-    under_short (Some d) (Some w) hd hy p q = absurd (omega arith)
+    under_short d y hd hy p q = grind arith
 
 -- any other, moved to that line
 module _ (o r : ℕ) (near : r ≤ 5000000000) where
@@ -58,18 +51,15 @@ module _ (o r : ℕ) (near : r ≤ 5000000000) where
 
   moved_low : (x : Option ℕ) (t : ℕ) → r + o ≤ t + (base + base) → NotSooner o r x t → NotSooner (base + base - r) r x (moved t)
   unfolding moved
-  moved_low None t l p = tt
-  moved_low (Some v) t l p = omega arith
+  moved_low x t l p = grind arith
 
   moved_high : (x : Option ℕ) (t : ℕ) → r + o ≤ t + (base + base) → NotLater o r x t → NotLater (base + base - r) r x (moved t)
   unfolding moved
-  moved_high None t l p = tt
-  moved_high (Some v) t l p = omega arith
+  moved_high x t l p = grind arith
 
   moved_short : (x : Option ℕ) (t1 t2 : ℕ) → r + o ≤ t1 + (base + base) → t1 ≤ t2 → NotLonger x t1 t2 → NotLonger x (moved t1) (moved t2)
   unfolding moved
-  moved_short None t1 t2 l u p = tt
-  moved_short (Some v) t1 t2 l u p = omega arith
+  moved_short x t1 t2 l u p = grind arith
 
 module _ (a : Annotation) (n : NearAll a) where
   abbrev r : ℕ

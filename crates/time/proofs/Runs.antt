@@ -33,9 +33,7 @@ module _ (r : ℕ) (near : Near r) where
       go false e = inr (omega (arith, leb-false))
 
   pub start_is : (x : Option ℕ) (b t : ℕ) → NearBound x → b ≤ t → low x r ≤ t → (b ≡ t) ⊎ Exactly base r x t → max (low x r) b ≡ t
-  start_is x b t h l n (inl e) = omega arith
-  start_is None b t h l n (inr e) = absurd e
-  start_is (Some v) b t h l n (inr e) = omega arith
+  start_is x b t h l n q = grind arith
 
   finish_flank : (x : Option ℕ) (e : ℕ) → NearBound x → e ≤ far → (min (high far x r) e ≡ e) ⊎ Exactly base r x (min (high far x r) e)
   finish_flank None e h l = inl (omega arith)
@@ -46,9 +44,7 @@ module _ (r : ℕ) (near : Near r) where
       go false q = inr (omega (arith, leb-false))
 
   finish_is : (x : Option ℕ) (e t : ℕ) → NearBound x → t ≤ e → t ≤ high far x r → (t ≡ e) ⊎ Exactly base r x t → min (high far x r) e ≡ t
-  finish_is x e t h l n (inl q) = omega arith
-  finish_is None e t h l n (inr q) = absurd q
-  finish_is (Some v) e t h l n (inr q) = omega arith
+  finish_is x e t h l n q = grind arith
 
 module _ (a : Annotation) (n : NearAll a) (τ : ℕ → Bool) where
   abbrev r : ℕ

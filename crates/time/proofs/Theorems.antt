@@ -36,8 +36,7 @@ code_back : (v : ℕ) → Near v → counted (plain v) ≡ v
 code_back v h = omega arith
 
 bound_back : (b : Option ℕ) → NearBound b → bound_of (number_of b) ≡ b
-bound_back None h = refl
-bound_back (Some v) h = simp (ne_eqb (plain v) none (omega arith)) (ap Some (code_back v h))
+bound_back b h = grind arith
 
 read_back : (a : Annotation) → NearAll a → annotation_of (numbers_of a) ≡ a
 read_back a n =

@@ -33,8 +33,7 @@ use Rattle.rules.specs.Answers.{Outcome, Done}
 
 -- a finish at the bound is the last that is possible
 last_at : (r : ℕ) (x : Option ℕ) (t u : ℕ) → Exactly base r x t → NotLater base r x u → u ≤ t
-last_at r None t u e l = absurd e
-last_at r (Some v) t u e l = omega arith
+last_at r x t u e l = grind arith
 
 -- of two intervals that satisfy and start together none goes on beyond the other
 no_longer : (a : Annotation) (τ : ℕ → Bool) (t1 t2 u2 : ℕ) → Satisfies a τ t1 t2 → Satisfies a τ t1 u2 → u2 ≤ t2

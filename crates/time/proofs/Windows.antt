@@ -68,29 +68,23 @@ module _ (w : Window) (t1 t2 : ℕ) where
 -- one bound, where the reference point r stands at the place p of a line that has minute 0 at origin
 module _ (origin r p : ℕ) (placed : p + base ≡ r + origin) (room : 1000000000 ≤ p) where
   low_sound : (x : Option ℕ) (t : ℕ) → NearBound x → low x p ≤ t → NotSooner origin r x t
-  low_sound None t h e = tt
-  low_sound (Some v) t h e = omega arith
+  low_sound x t h e = grind arith
 
   low_complete : (x : Option ℕ) (t : ℕ) → NearBound x → NotSooner origin r x t → low x p ≤ t
-  low_complete None t h e = omega arith
-  low_complete (Some v) t h e = omega arith
+  low_complete x t h e = grind arith
 
   high_sound : (beyond : ℕ) (x : Option ℕ) (t : ℕ) → NearBound x → t ≤ high beyond x p → NotLater origin r x t
-  high_sound beyond None t h e = tt
-  high_sound beyond (Some v) t h e = omega arith
+  high_sound beyond x t h e = grind arith
 
   high_complete : (beyond : ℕ) (x : Option ℕ) (t : ℕ) → NearBound x → t ≤ beyond → NotLater origin r x t → t ≤ high beyond x p
-  high_complete beyond None t h l e = l
-  high_complete beyond (Some v) t h l e = omega arith
+  high_complete beyond x t h l e = grind arith
 
 short_sound : (beyond : ℕ) (x : Option ℕ) (t1 t2 : ℕ) → t2 + base ≤ t1 + high beyond x base → NotLonger x t1 t2
-short_sound beyond None t1 t2 e = tt
-short_sound beyond (Some v) t1 t2 e = omega arith
+short_sound beyond x t1 t2 e = grind arith
 
 short_complete :
     (beyond : ℕ) (x : Option ℕ) (t1 t2 : ℕ) → t2 + base ≤ t1 + beyond → NotLonger x t1 t2 → t2 + base ≤ t1 + high beyond x base
-short_complete beyond None t1 t2 l e = l
-short_complete beyond (Some v) t1 t2 l e = omega arith
+short_complete beyond x t1 t2 l e = grind arith
 
 -- a whole annotation
 module _ (a : Annotation) (n : NearAll a) (origin p : ℕ) (placed : p + base ≡ a.reference + origin) (room : 1000000000 ≤ p) where
@@ -184,12 +178,10 @@ finished_within w t1 t2 asked m l =
 -- how far an open bound lies off changes nothing for minutes before it
 module _ (a : Annotation) (n : NearAll a) (p beyond : ℕ) (room : p ≤ 5000000000) (out : far ≤ beyond) where
   low_small : (x : Option ℕ) → NearBound x → low x p ≤ 6000000000
-  low_small None h = omega arith
-  low_small (Some v) h = omega arith
+  low_small x h = grind arith
 
   difference : (x : Option ℕ) (e : ℕ) → e ≤ 6000000000 → e + base - high beyond x base ≡ e + base - high far x base
-  difference None e l = omega arith
-  difference (Some v) e l = refl
+  difference x e l = grind arith
 
   pub same_soonest : (k : ℕ) → soonest (window_to beyond a p) k ≡ soonest (window a p) k
   same_soonest k = rw (difference a.greatest (low a.efs p) (low_small a.efs n.efs))
@@ -212,12 +204,10 @@ module _ (a : Annotation) (n : NearAll a) (p beyond : ℕ) (room : p ≤ 5000000
       omega arith
 
   high_near : (x : Option ℕ) (t : ℕ) → t ≤ far → t ≤ high beyond x p → t ≤ high far x p
-  high_near None t l e = l
-  high_near (Some v) t l e = e
+  high_near x t l e = grind arith
 
   short_near : (x : Option ℕ) (t1 t2 : ℕ) → t2 + base ≤ t1 + far → t2 + base ≤ t1 + high beyond x base → t2 + base ≤ t1 + high far x base
-  short_near None t1 t2 l e = l
-  short_near (Some v) t1 t2 l e = e
+  short_near x t1 t2 l e = grind arith
 
   pub nearer : (t1 t2 : ℕ) → t1 ≤ 11000000000 → t2 ≤ 11000000000 → Within (window_to beyond a p) t1 t2 → Within (window a p) t1 t2
   nearer t1 t2 l1 l2 m =
