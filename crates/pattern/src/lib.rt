@@ -31,6 +31,7 @@ const NONE: u64 = 0x8000_0000_0000_0000;
 const MOST: usize = 1024;
 
 // Whether a history satisfies an annotation at a minute, or still can; or refusal 18, 19 or 20.
+#[tactic(auto, using(time::proofs::Histories::judging), unfolding(time::specs::Search::judgement_of))]
 pub fn judge(numbers: &[u64; 7], samples: &[u64], minute: u64) -> Result<Judgement, Refusal>
     ensures { Judged numbers.now samples.now minute result }
 {
@@ -45,6 +46,7 @@ pub fn judge(numbers: &[u64; 7], samples: &[u64], minute: u64) -> Result<Judgeme
 }
 
 // Puts the normal form of an annotation in its place, or refuses with 18, 21 or 26 and changes nothing.
+#[tactic(auto, using(time::proofs::Possibles::normalising))]
 pub fn normalise(numbers: &mut [u64; 7]) -> Result<(), Refusal>
     ensures { Normalised numbers.old result numbers.new }
 {

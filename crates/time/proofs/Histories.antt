@@ -12,7 +12,7 @@ use Rattle.rules.specs.Answers.{◌and_then◌, refuse_if, Outcome, Done}
 use Rattle.rules.specs.declared.Refusal.TheVariants.{ValueRange, ManySamples, TimesOrder}
 use Rattle.rules.proofs.Outcomes.{first_done, then_done, if_done}
 use Rattle.time.specs.Annotations.{counted, annotation_of, in_range, annotation_in_range}
-use Rattle.time.specs.Patterns.{every, minute_at, truth_at, edge, speaks_of, true_at, in_order, Satisfied, samples_check, pattern_check, Judged, satisfied, satisfiable, neither}
+use Rattle.time.specs.Patterns.{every, minute_at, truth_at, edge, speaks_of, true_at, in_order, Satisfied, samples_check, pattern_check, Judged, refused, satisfied, satisfiable, neither}
 use Rattle.time.specs.Search.{window, next, pass_to, can_be, told, answer, judgement_of, Near, NearAll}
 use Rattle.time.specs.declared.Annotation.{Annotation}
 use Rattle.time.specs.declared.Window.{Window}
@@ -23,6 +23,7 @@ use Rattle.time.proofs.Ranges.{near, near_all}
 use Rattle.time.proofs.Passes.{Passed, nothing_yet, sampled}
 use Rattle.time.proofs.Continued.{can_sound, can_complete}
 use Rattle.std.specs.Prelude.{Ok, Err}
+use Rattle.std.proofs.Math.Bool.{and-false}
 
 module _ (h : List ℕ) (asked : ℕ) where
   abbrev n : ℕ
@@ -103,12 +104,8 @@ module _ (h : List ℕ) (asked : ℕ) where
         others : truth_at h i ≡ false → (j : ℕ) → j < n → (speaks_of h asked m j && truth_at h j) ≡ false
         others q j u = at (ℕ_discrete j i) (dec_lt j i)
           where
-            right : (b : Bool) → (b && false) ≡ false
-            right true = refl
-            right false = refl
-
             at : Dec (j ≡ i) → Dec (j < i) → (speaks_of h asked m j && truth_at h j) ≡ false
-            at (yes d) f = rw d (rw q (right (speaks_of h asked m i)))
+            at (yes d) f = rw d (rw q (and-false (speaks_of h asked m i)))
             at (no d) (yes f) = let x : e (suc j) ≤ e i = grows (suc j) i (omega arith) (omega arith) in after_it m j (omega arith)
             at (no d) (no f) = let x : e (suc i) ≤ e j = grows (suc i) j (omega arith) (omega arith) in before_it m j (omega arith)
 
@@ -225,6 +222,7 @@ module _ (h : List ℕ) (asked : ℕ) where
       pub asked_near : Near asked
       asked_near = near asked (second (annotation_in_range a) (in_range asked) is_in_range)
 
+-- what its `check` stands on
 pub ruleset checks = (refuses_range, refuses_many, refuses_order, passes)
 
 -- what the code answers is permitted
@@ -277,3 +275,6 @@ module _ (l h : List ℕ) (z : ℕ) where
         go (Since b) q can c st =
             let some : b < asked + 2 = st.some in
             clash (st.inside (asked + 1) (omega arith) (omega arith)) (silent h asked ordered (asked + 1) (omega arith))
+
+-- what `judge` of crate `pattern` stands on
+pub ruleset judging = (refused, refuses_first, passes_first, first, near_all, judged)

@@ -1,7 +1,7 @@
 -- The normal form of an annotation admits the same intervals, and is its own normal form. Assumes nothing.
-use Prim.Native.Nat.{ℕ, ◌+◌, ◌-◌, ◌≤◌, max, min}
+use Prim.Native.Nat.{ℕ, ◌+◌, ◌≤◌}
 use native.Mathlib.Omega.{arith}
-use mathlib.Core.Path.{◌≡◌, refl, ap}
+use mathlib.Core.Path.{◌≡◌}
 use Rattle.time.specs.Annotations.{base, NotSooner, NotLater, NotLonger, Admits}
 use Rattle.time.specs.Normal.{larger, smaller, minus, plus, larger_number, normal, Possible}
 use Rattle.time.specs.Search.{NearBound, NearAll}

@@ -41,9 +41,7 @@ Passed a τ e (Since b) = Going a τ b e
 -- what is found stays found
 module _ (w : Window) (h : List ℕ) (k : ℕ) where
   kept : (pass : Pass) (t : ℕ) (v : Bool) → is_found pass ≡ true → next w pass t v ≡ pass
-  kept (Found t1 t2) t v e = refl
-  kept Off t v e = clash e refl
-  kept (Since b) t v e = clash e refl
+  kept pass t v e = grind arith
 
   pub found_stays : (n : ℕ) → k ≤ n → is_found (pass_to w h k) ≡ true → pass_to w h n ≡ pass_to w h k
   unfolding pass_to

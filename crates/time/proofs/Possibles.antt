@@ -7,7 +7,7 @@ use mathlib.Core.Bool.{true, false}
 use mathlib.Core.List.{List}
 use Rattle.rules.specs.declared.Refusal.TheVariants.{NoInterval, NormalRange}
 use Rattle.time.specs.Annotations.{base, annotation_of, annotation_in_range, NotSooner, NotLater, NotLonger, Admits}
-use Rattle.time.specs.Normal.{normal, Possible, numbers_of, Normalised, no_interval, normal_range, done}
+use Rattle.time.specs.Normal.{normal, Possible, numbers_of, Normalised, value_range, no_interval, normal_range, done}
 use Rattle.time.specs.Search.{low, high, window_to, far, window, finish, soonest, starts_from, NearBound, NearAll}
 use Rattle.time.specs.declared.Annotation.{Annotation}
 use Rattle.time.specs.declared.Window.{Window}
@@ -25,7 +25,7 @@ use Rattle.time.proofs.Windows.{
   finish_small,
   nearer,
 }
-use Rattle.std.specs.Prelude.{Err, Option, None, Some}
+use Rattle.std.specs.Prelude.{Err, Option}
 use Rattle.rules.specs.Answers.{Done}
 
 -- an interval that starts before place 0 of the line that has the reference point at base: no bound holds it back, so one starts at 0
@@ -166,3 +166,6 @@ module _ (l : List ℕ) (a : Annotation) (read : a ≡ annotation_of l) (ranged 
     normalised_done inside put =
         subst (λ (x : List ℕ). Normalised l Done x) (sym (put ∙ ap (λ (x : Annotation). numbers_of (normal x)) read))
         (done of_it some (subst (λ (x : Annotation). annotation_in_range (normal x) ≡ true) read inside))
+
+-- what `normalise` of crate `pattern` stands on
+pub ruleset normalising = (value_range, near_all, normalised_none, normalised_out, normalised_done)

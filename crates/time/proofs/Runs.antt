@@ -2,7 +2,7 @@
 use Prim.Native.Nat.{ℕ, ◌+◌, ◌-◌, ◌≤◌, ◌<◌, max, min}
 use native.Mathlib.Omega.{arith}
 use native.Mathlib.Decide.{ℕ_discrete, dec_lt}
-use mathlib.Core.Path.{◌≡◌, refl, ◌∙◌, subst}
+use mathlib.Core.Path.{◌≡◌, refl, ◌∙◌}
 use mathlib.Core.Logic.{◌⊎◌, inl, inr}
 use mathlib.Core.Bool.{Bool, true, false}
 use borrow.Author.Tests.{leb-true, leb-false}
@@ -83,11 +83,7 @@ module _ (a : Annotation) (n : NearAll a) (τ : ℕ → Bool) where
         started (inr q) = inr q
 
         ended : (f ≡ past - 1) ⊎ Exactly base r a.lfs f → (τ (f + 1) ≡ false) ⊎ Exactly base r a.lfs f
-        ended (inl q) =
-            let begun : b < past = run.some in
-            let e : past ≡ f + 1 = omega arith in
-            inl (subst (λ (m : ℕ). τ m ≡ false) e run.after)
-        ended (inr q) = inr q
+        ended q = grind arith
 
     -- an interval that satisfies and starts in the run
     module _ (t1 t2 : ℕ) (y : Satisfies a τ t1 t2) (l : b ≤ t1) (u : t1 < past) where

@@ -1,22 +1,20 @@
 -- Laws of tests: conjunctions, and what every number below another passes. Assumes nothing.
-use Prim.Native.Nat.{ℕ, zero, suc, ◌+◌, ◌<◌}
-use native.Mathlib.Numerals.{add-one}
+use Prim.Native.Nat.{ℕ, zero, suc, ◌<◌}
 use native.Mathlib.Omega.{arith}
 use native.Mathlib.Decide.{ℕ_discrete}
 use mathlib.Core.Path.{◌≡◌, refl, sym, ◌∙◌, ap}
 use mathlib.Core.Bool.{Bool, true, false, not, ◌&&◌, false≢true}
+use Rattle.std.proofs.Math.Bool.{and-true}
 use Rattle.time.specs.Patterns.{every, some}
 
 pub clash : {A : Type 0} {b : Bool} → b ≡ true → b ≡ false → A
 clash p q = absurd (false≢true (sym q ∙ p))
 
 pub first : (a b : Bool) → (a && b) ≡ true → a ≡ true
-first true b e = refl
-first false b e = absurd (false≢true e)
+first a b e = grind arith
 
 pub second : (a b : Bool) → (a && b) ≡ true → b ≡ true
-second true b e = e
-second false b e = absurd (false≢true e)
+second a b e = grind arith
 
 pub both : (a b : Bool) → a ≡ true → b ≡ true → (a && b) ≡ true
 both a b p q = rw (p, q)
@@ -35,17 +33,9 @@ unfolding every
 every_is f zero h = refl
 every_is f (suc k) h = both (every f k) (f k) (every_is f k (λ i l. h i (omega arith))) (h k (omega arith))
 
-pub every_more : (f : ℕ → Bool) (i : ℕ) → every f i ≡ true → f i ≡ true → every f (i + 1) ≡ true
-unfolding every
-every_more f i e here = rw (add-one i) (both (every f i) (f i) e here)
-
 pub every_less : (f : ℕ → Bool) (k : ℕ) → f k ≡ true → every f (suc k) ≡ every f k
 unfolding every
-every_less f k e = rw e (alone (every f k))
-  where
-    alone : (b : Bool) → (b && true) ≡ b
-    alone true = refl
-    alone false = refl
+every_less f k e = rw e (and-true (every f k))
 
 pub every_fails : (f : ℕ → Bool) (n i : ℕ) → i < n → f i ≡ false → every f n ≡ false
 every_fails f n i l e = go (every f n) refl

@@ -2,15 +2,14 @@
 -- intervals; normalising again changes nothing. Assumes nothing.
 use Prim.Native.Nat.{ℕ}
 use native.Mathlib.Omega.{arith}
-use mathlib.Core.Path.{◌≡◌, refl, sym, ◌∙◌, ap, subst}
+use mathlib.Core.Path.{◌≡◌, sym, ◌∙◌, ap, subst}
 use mathlib.Core.Bool.{true}
 use mathlib.Core.List.{List}
-use borrow.Author.Tests.{ne_eqb}
-use Rattle.time.specs.Annotations.{counted, none, bound_of, annotation_of, annotation_in_range, Admits}
+use Rattle.time.specs.Annotations.{counted, bound_of, annotation_of, annotation_in_range, Admits}
 use Rattle.time.specs.Patterns.{true_at, in_order, Satisfied, Satisfiable}
 use Rattle.time.specs.Normal.{normal, Possible, plain, number_of, numbers_of, Normalised, done}
 use Rattle.time.specs.Search.{Near, NearBound, NearAll}
-use Rattle.std.specs.Prelude.{Option, None, Some}
+use Rattle.std.specs.Prelude.{Option}
 use Rattle.time.specs.declared.Annotation.{Annotation}
 use Rattle.time.proofs.Ranges.{near_all}
 use Rattle.time.proofs.Continued.{still_satisfiable}

@@ -28,7 +28,7 @@ use Rattle.time.specs.declared.Judgement.TheVariants as judgement
 use Rattle.time.proofs.Tests.{clash}
 use Rattle.time.proofs.Histories.{order}
 use Rattle.time.proofs.Theorems.{satisfied_is_satisfiable}
-use Rattle.std.specs.Prelude.{Err, Option, None, Some, Result, Ok}
+use Rattle.std.specs.Prelude.{Err, Option, Result, Ok}
 use Rattle.rules.specs.Answers.{Outcome, Done}
 
 -- a finish at the bound is the last that is possible

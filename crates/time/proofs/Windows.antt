@@ -1,13 +1,13 @@
 -- The tests of a window say which intervals an annotation admits. Assumes nothing.
 use Prim.Native.Nat.{ℕ, ◌+◌, ◌-◌, ◌≤◌, max}
 use native.Mathlib.Omega.{arith}
-use mathlib.Core.Path.{◌≡◌, refl}
+use mathlib.Core.Path.{◌≡◌}
 use mathlib.Core.Bool.{Bool, true, ◌&&◌}
 use borrow.Author.Tests.{leb-true, le-leb}
 use lib.Dec.{leb}
 use Rattle.time.specs.Annotations.{base, NotSooner, NotLater, NotLonger, Admits}
 use Rattle.time.specs.Search.{low, high, window_to, far, window, admitted, finish, soonest, NearBound, NearAll}
-use Rattle.std.specs.Prelude.{Option, None, Some}
+use Rattle.std.specs.Prelude.{Option}
 use Rattle.time.specs.declared.Annotation.{Annotation}
 use Rattle.time.specs.declared.Window.{Window}
 use Rattle.time.proofs.Tests.{first, second}
