@@ -1,2 +1,2 @@
--- That the answers of this crate are one.
-pub mod Unique
+-- Laws for the proofs of this crate.
+pub mod Numbers

@@ -1,5 +1,5 @@
 -- The texts that are printed. Assumes nothing.
-use Rattle.std.specs.Prelude.{ℕ, ◌-◌, ◌^◌, Bool, true, false, cond, List, [], ◌++◌, get_or, eqb, ltb, Ok, Err}
+use Rattle.std.specs.Prelude.{ℕ, ◌-◌, ◌^◌, Bool, true, false, cond, List, [], ◌++◌, get_or, eqb, ltb, Result, Ok, Err}
 use Rattle.rules.specs.Bytes.{text}
 use Rattle.rules.specs.Program.{decimal, line}
 use Rattle.rules.specs.declared.Refusal.{Refusal}
@@ -62,8 +62,11 @@ outcome_text (Err why) numbers = no_normal_text why
 abbrev pub satisfied_text : ℕ → ℕ → List ℕ
 satisfied_text first last = text "satisfied by " ++ minute first ++ text " .. " ++ minute last ++ text "\nsatisfiable\n"
 
-abbrev pub answer_text : Judgement → Outcome → List ℕ → List ℕ
-answer_text (judgement.Satisfied first last) outcome numbers = satisfied_text first last ++ outcome_text outcome numbers
-answer_text judgement.Satisfiable outcome numbers = text "not satisfied\nsatisfiable\n" ++ outcome_text outcome numbers
-answer_text judgement.Neither outcome numbers = text "not satisfied\nnot satisfiable\n" ++ outcome_text outcome numbers
-answer_text (judgement.Refused why) outcome numbers = refused_text why
+abbrev pub judged_text : Judgement → List ℕ
+judged_text (judgement.Satisfied first last) = satisfied_text first last
+judged_text judgement.Satisfiable = text "not satisfied\nsatisfiable\n"
+judged_text judgement.Neither = text "not satisfied\nnot satisfiable\n"
+
+abbrev pub answer_text : Result Judgement Refusal → Outcome → List ℕ → List ℕ
+answer_text (Ok judgement) outcome numbers = judged_text judgement ++ outcome_text outcome numbers
+answer_text (Err why) outcome numbers = refused_text why
