@@ -1,5 +1,7 @@
 -- What the lines of a text say, and the first that is wrong. Assumes nothing.
-use Rattle.std.specs.Prelude.{ℕ, suc, ◌+◌, ◌^◌, cond, List, [], ◌∷◌, ◌++◌, get_or, set, eqb}
+use Rattle.std.specs.Prelude.{ℕ, suc, cond, List, [], ◌∷◌, ◌++◌, eqb, Option, None, Some, Result, Ok, Err}
+use Rattle.std.specs.Option.{unwrap_or}
+use Rattle.statements.specs.Words.{no_bound}
 use Rattle.statements.specs.Statements.{says}
 use Rattle.statements.specs.declared.Pair.{Pair}
 use Rattle.statements.specs.declared.Pair.TheVariants.{Start, Finish, Lasts}
@@ -8,9 +10,10 @@ use Rattle.statements.specs.declared.Single.TheVariants.{From, Asked}
 use Rattle.statements.specs.declared.Fault.{Fault}
 use Rattle.statements.specs.declared.Fault.TheVariants.{Again, NotAsked}
 use Rattle.statements.specs.declared.Saying.{Saying}
-use Rattle.statements.specs.declared.Saying.TheVariants.{Nothing, Bounds, One, Sample, Wrong}
-use Rattle.aptime.specs.declared.Check.{Check}
-use Rattle.aptime.specs.declared.Check.TheVariants.{Fine, Faulty}
+use Rattle.statements.specs.declared.Saying.TheVariants.{Nothing, Bounds, One, Sample}
+use Rattle.printing.specs.declared.Wrong.{Wrong}
+use Rattle.aptime.specs.declared.Told.{Told}
+use Rattle.aptime.specs.declared.Question.{Question}
 
 -- the lines of a text; the last may lack its newline
 abbrev pub onto : ℕ → List (List ℕ) → List (List ℕ)
@@ -21,62 +24,93 @@ unfoldable pub lines : List ℕ → List (List ℕ)
 lines [] = []
 lines (b ∷ s) = cond (eqb b 10) ([] ∷ lines s) (onto b (lines s))
 
--- what was told is kept as eight numbers: the annotation's seven, and the minute of asking. This one stands where nothing was said
-abbrev pub unsaid : ℕ
-unsaid = 2 ^ 63 + 1
-
-abbrev pub pair_place : Pair → ℕ
-pair_place Start = 0
-pair_place Finish = 2
-pair_place Lasts = 4
-
-abbrev pub single_place : Single → ℕ
-single_place From = 6
-single_place Asked = 7
+-- nothing is told yet
+abbrev pub silent : Told
+silent = record { start = None; finish = None; lasts = None; from = None; asked = None }
 
 -- a statement is said once
-abbrev pub again : ℕ → Check
-again x = cond (eqb x unsaid) Fine (Faulty Again)
+abbrev pub once : {A : Type 0} → Option A → A → Result (Option A) Fault
+once None x = Ok (Some x)
+once (Some y) x = Err Again
 
-abbrev pub checked : Saying → List ℕ → Check
-checked Nothing told = Fine
-checked (Bounds pair x y) told = again (get_or told (pair_place pair) 0)
-checked (One single x) told = again (get_or told (single_place single) 0)
-checked (Sample x) told = Fine
-checked (Wrong fault) told = Faulty fault
+-- what was told, with two bounds, with a number, and with what a line says
+abbrev pub if_once : {A B : Type 0} → (A → B) → Result A Fault → Result B Fault
+if_once f (Ok x) = Ok (f x)
+if_once f (Err fault) = Err fault
 
--- what was told, and a line more
-abbrev pub told_by : Saying → List ℕ → List ℕ
-told_by Nothing told = told
-told_by (Bounds pair x y) told = set (set told (pair_place pair) x) (pair_place pair + 1) y
-told_by (One single x) told = set told (single_place single) x
-told_by (Sample x) told = told
-told_by (Wrong fault) told = told
+module _ (told : Told) where
+  abbrev pub told_start : Option (ℕ × ℕ) → Told
+  told_start x = record { start = x; finish = told.finish; lasts = told.lasts; from = told.from; asked = told.asked }
 
-abbrev pub sample_by : Saying → List ℕ
-sample_by Nothing = []
-sample_by (Bounds pair x y) = []
-sample_by (One single x) = []
-sample_by (Sample x) = x ∷ []
-sample_by (Wrong fault) = []
+  abbrev pub told_finish : Option (ℕ × ℕ) → Told
+  told_finish x = record { start = told.start; finish = x; lasts = told.lasts; from = told.from; asked = told.asked }
 
--- what a text says: a line is the first that is wrong, or there are what was told and the samples
-pub data Said : Type 0 where
-  wrong : ℕ → Fault → Said
-  whole : List ℕ → List ℕ → Said
+  abbrev pub told_lasts : Option (ℕ × ℕ) → Told
+  told_lasts x = record { start = told.start; finish = told.finish; lasts = x; from = told.from; asked = told.asked }
 
-abbrev pub or_wrong : Check → ℕ → Said → Said
-or_wrong Fine k rest = rest
-or_wrong (Faulty fault) k rest = wrong k fault
+  abbrev pub told_from : Option ℕ → Told
+  told_from x = record { start = told.start; finish = told.finish; lasts = told.lasts; from = x; asked = told.asked }
 
--- the lines from line k on, after what was told and the samples of those before; `asked` must be there
-unfoldable pub read_from : ℕ → List ℕ → List ℕ → List (List ℕ) → Said
-read_from k told samples [] = cond (eqb (get_or told 7 0) unsaid) (wrong k NotAsked) (whole told samples)
+  abbrev pub told_asked : Option ℕ → Told
+  told_asked x = record { start = told.start; finish = told.finish; lasts = told.lasts; from = told.from; asked = x }
+
+abbrev pub told_bounds : Pair → ℕ × ℕ → Told → Result Told Fault
+told_bounds Start b told = if_once (told_start told) (once told.start b)
+told_bounds Finish b told = if_once (told_finish told) (once told.finish b)
+told_bounds Lasts b told = if_once (told_lasts told) (once told.lasts b)
+
+abbrev pub told_one : Single → ℕ → Told → Result Told Fault
+told_one From x told = if_once (told_from told) (once told.from x)
+told_one Asked x told = if_once (told_asked told) (once told.asked x)
+
+abbrev pub told_and : Saying → Told → Result Told Fault
+told_and Nothing told = Ok told
+told_and (Bounds pair x y) told = told_bounds pair (x, y) told
+told_and (One single x) told = told_one single x told
+told_and (Sample x) told = Ok told
+
+-- the same of a line, which may be wrong, and its sample
+abbrev pub told_by : Result Saying Fault → Told → Result Told Fault
+told_by (Ok saying) told = told_and saying told
+told_by (Err fault) told = Err fault
+
+abbrev pub sample_of : Result Saying Fault → List ℕ
+sample_of (Ok Nothing) = []
+sample_of (Ok (Bounds pair x y)) = []
+sample_of (Ok (One single x)) = []
+sample_of (Ok (Sample x)) = x ∷ []
+sample_of (Err fault) = []
+
+-- the seven numbers of an annotation: where nothing was said, document 001's default (Table 1)
+abbrev pub numbers_by : ℕ × ℕ → ℕ × ℕ → ℕ × ℕ → ℕ → List ℕ
+numbers_by s f l r = s.0 ∷ s.1 ∷ f.0 ∷ f.1 ∷ l.0 ∷ l.1 ∷ r ∷ []
+
+abbrev pub numbers_of : Told → List ℕ
+numbers_of told =
+    numbers_by (unwrap_or told.start (no_bound, no_bound)) (unwrap_or told.finish (no_bound, no_bound)) (unwrap_or told.lasts (0, no_bound))
+    (unwrap_or told.from 0)
+
+-- what a text says: a question and the samples, or the first line that is wrong
+abbrev pub Said : Type 0
+Said = Result (Question × List ℕ) Wrong
+
+abbrev pub wrong : ℕ → Fault → Said
+wrong k fault = Err (record { line = k; fault = fault })
+
+abbrev pub or_wrong : Result Told Fault → ℕ → (Told → Said) → Said
+or_wrong (Ok told) k rest = rest told
+or_wrong (Err fault) k rest = wrong k fault
+
+-- `asked` must be there
+abbrev pub question_of : Option ℕ → ℕ → Told → List ℕ → Said
+question_of None k told samples = wrong k NotAsked
+question_of (Some z) k told samples = Ok (record { numbers = numbers_of told; asked = z }, samples)
+
+-- the lines from line k on, after what was told and the samples of those before
+unfoldable pub read_from : ℕ → Told → List ℕ → List (List ℕ) → Said
+read_from k told samples [] = question_of told.asked k told samples
 read_from k told samples (l ∷ ls) =
-    or_wrong (checked (says l) told) k (read_from (suc k) (told_by (says l) told) (samples ++ sample_by (says l)) ls)
-
-abbrev pub silent : List ℕ
-silent = unsaid ∷ unsaid ∷ unsaid ∷ unsaid ∷ unsaid ∷ unsaid ∷ unsaid ∷ unsaid ∷ []
+    or_wrong (told_by (says l) told) k (λ (t : Told). read_from (suc k) t (samples ++ sample_of (says l)) ls)
 
 unfoldable pub said_in : List ℕ → Said
 said_in input = read_from 1 silent [] (lines input)

@@ -1,253 +1,233 @@
 // The program `aptime`: a time annotation and a history in words on standard input; on standard output whether the history satisfies the
-// annotation or still can, and the annotation's normal form. `report` is the whole of it on slices: its contract fixes every printed byte.
-// Where standard input cannot be read to its end there is no input, and so no answer: `main` says so on standard error.
-// Assumes what crate `text` does of the system's read and write.
+// annotation or still can, and the annotation's normal form. `report` is the whole of it on a slice: its contract fixes every byte that its
+// answer is printed with. Where standard input cannot be read to its end there is no input, and so no answer: `main` says so on standard
+// error. Assumes what crate `text` does of the system's read and write.
 #![tactic(auto)]
 
-ghost use Rattle.std.specs.Prelude.{◌≡◌, ◌<◌, ◌≤◌, length, take};
-ghost use Rattle.io.specs.Counts.{IsPrefixLen};
+ghost use Rattle.std.specs.Prelude.{◌≡◌, ◌+◌, ◌<◌, ◌≤◌, ◌∷◌, [], ◌++◌, length, Some, MatchOption};
+ghost use Rattle.arrayvec.specs.ArrayVec.{array_vec_len};
 ghost use Rattle.aptime.specs.Lines as Lines;
 ghost use Rattle.aptime.specs.Printed as Printed;
 ghost use Rattle.aptime.specs.Steps as Steps;
 
+use arrayvec::ArrayVec;
+use printing::{Answer, Wrong};
 use rules::Refusal;
-use statements::{Fault, OPEN, Pair, Saying, Single, Stretch};
-use text::Input;
-
-// Stands where nothing was said: no number of a text is this one.
-const UNSAID: u64 = 0x8000_0000_0000_0001;
+use statements::{Fault, OPEN, Pair, Saying, Single};
+use std::fmt;
+use text::RefusalLine;
 
 fn main(rt: HostRuntime) {
     let mut input = text::buffer();
-    let Input::Whole(n) = text::read_input(&mut rt.stdin(), &mut input) else {
-        text::complain(
-            &mut rt.stderr(),
-            b"aptime: standard input cannot be read; nothing is answered\n",
-        );
+    let Ok(n) = text::read_input(&mut rt.stdin(), &mut input) else {
+        let _ = eprintln!(rt; "aptime: standard input cannot be read; nothing is answered");
         return;
     };
-    let mut out = [0u8; 512];
-    let end = report(&input[..n], &mut out);
-    text::write(
-        &mut rt.stdout(),
-        &mut rt.stderr(),
-        &out[..end],
-        b"aptime: standard output cannot be written\n",
-    );
+    if print!(rt; "{}", report(&input[..n])).is_err() {
+        let _ = eprintln!(rt; "aptime: standard output cannot be written");
+    }
 }
 
-// Puts the answer to an input at the start of `out`, and answers where it ends.
-fn report(input: &[u8], out: &mut [u8; 512]) -> usize
-    ensures within { IsPrefixLen result out.new }
-    ensures printed { Printed.Printed input.now (take result out.new) }
+// What an input is answered.
+#[derive(Clone, Copy)]
+enum Response {
+    Refused(Refusal),
+    Wrong(Wrong),
+    Answered(Answer),
+}
+
+impl fmt::Display for Response {
+    ghost output = { λ r. Some (Printed.response_text r) };
+
+    fn fmt<W: fmt::Write>(&self, f: &mut fmt::Formatter<W>) -> fmt::Result {
+        match *self {
+            Response::Refused(why) => write!(f, "{}", RefusalLine(why)),
+            Response::Wrong(wrong) => write!(f, "{wrong}"),
+            Response::Answered(answer) => write!(f, "{answer}"),
+        }
+    }
+}
+
+// The answer to an input.
+fn report(input: &[u8]) -> Response
+    ensures { Printed.Printed input.now (Printed.response_text result) }
 {
     if 65536 < input.len() {
-        return text::put_refusal(Refusal::InputLong, out, 0);
+        return Response::Refused(Refusal::InputLong);
     }
-    let mut told = [UNSAID; 8];
-    let mut samples = room();
-    respond(input, &mut told, &mut samples, out)
-}
-
-// Room for the samples of every input: no line has two.
-fn room() -> [u64; 65536]
-    ensures { 65536 ≡ length result }
-{
-    [0; 65536]
-}
-
-// The answer to an input that is not too long. What it says is kept in `told` and `samples`.
-fn respond(input: &[u8], told: &mut [u64], samples: &mut [u64], out: &mut [u8]) -> usize
-    requires { (length input.now ≤ 65536) × (told.old ≡ Lines.silent) × (length samples.old ≡ 65536) × (512 ≤ length out.old) }
-    ensures { (result ≤ 512) × Printed.Printed input.now (take result out.new) }
-{
-    match read(input, told, samples) {
-        Reading::Wrong { line, fault } => printing::put_wrong(line, fault, out),
-        Reading::Whole(n) => answer(told, &samples[..n], out),
+    let mut samples = ArrayVec::<u64, 65536>::new();
+    match read(input, &mut samples) {
+        Ok(question) => answer(question, &samples),
+        Err(wrong) => Response::Wrong(wrong),
     }
 }
 
 // The answer to what was told.
-fn answer(told: &[u64], samples: &[u64], out: &mut [u8]) -> usize
-    requires { (length told.now ≡ 8) × (512 ≤ length out.old) }
-    ensures { (result ≤ 512) × Printed.Answered told.now samples.now (take result out.new) }
+fn answer(question: Question, samples: &[u64]) -> Response
+    ensures { Printed.Answered question samples.now (Printed.response_text result) }
 {
-    let mut numbers = numbers_of(told);
-    let judgement = pattern::judge(&numbers, samples, told[7]);
+    let mut numbers = question.numbers;
     let outcome = pattern::normalise(&mut numbers);
-    printing::put_answer(judgement, outcome, &numbers, out)
+    match pattern::judge(&question.numbers, samples, question.asked) {
+        Ok(judgement) => Response::Answered(Answer {
+            judgement,
+            outcome,
+            numbers,
+        }),
+        Err(why) => Response::Refused(why),
+    }
 }
 
-// The seven numbers of an annotation: where nothing was said, Table 1's default.
-fn numbers_of(told: &[u64]) -> [u64; 7]
-    requires { length told.now ≡ 8 }
-    ensures { result ≡ Printed.numbers_of told.now }
-{
-    let ess = or_else(told[0], OPEN);
-    let lss = or_else(told[1], OPEN);
-    let efs = or_else(told[2], OPEN);
-    let lfs = or_else(told[3], OPEN);
-    let least = or_else(told[4], 0);
-    let greatest = or_else(told[5], OPEN);
-    let reference = or_else(told[6], 0);
-    [ess, lss, efs, lfs, least, greatest, reference]
+// What a text asks: about an annotation's numbers, at a minute.
+#[derive(Clone, Copy)]
+struct Question {
+    numbers: [u64; 7],
+    asked: u64,
 }
 
-// A number that was said, or the default.
-fn or_else(x: u64, default: u64) -> u64
-    ensures { result ≡ Printed.or_else x default }
-{
-    if x == UNSAID { default } else { x }
+// What a text told so far.
+#[derive(Clone, Copy)]
+struct Told {
+    start: Option<(u64, u64)>,
+    finish: Option<(u64, u64)>,
+    lasts: Option<(u64, u64)>,
+    from: Option<u64>,
+    asked: Option<u64>,
 }
 
-// What reading a text came to: the first line that is wrong, or so many samples.
-#[derive(Drop)]
-enum Reading {
-    Wrong { line: usize, fault: Fault },
-    Whole(usize),
-}
+const SILENT: Told = Told {
+    start: None,
+    finish: None,
+    lasts: None,
+    from: None,
+    asked: None,
+};
 
-// Reads a text line by line.
-fn read(input: &[u8], told: &mut [u64], samples: &mut [u64]) -> Reading
-    requires { (length input.now ≤ 65536) × (length told.old ≡ 8) × (length samples.old ≡ 65536) }
-    ensures { Steps.ReadAs input.now told.old result told.new samples.new }
-{
-    let mut at = 0;
-    let mut line = 1;
-    let mut count = 0;
-    while at < input.len() {
-        let rest = &input[at..];
-        let k = statements::run(Stretch::Line, rest);
-        match take_line(&rest[..k], told, samples, count) {
-            Taken::Wrong(fault) => return Reading::Wrong { line, fault },
-            Taken::Kept(n) => {
-                count = n;
-                at += k + 1;
-                line += 1;
-            }
+impl Told {
+    // The numbers of the annotation: where nothing was said, Table 1's default.
+    fn numbers(self) -> [u64; 7]
+        ensures { result ≡ Lines.numbers_of self }
+    {
+        let (ess, lss) = self.start.unwrap_or((OPEN, OPEN));
+        let (efs, lfs) = self.finish.unwrap_or((OPEN, OPEN));
+        let (least, greatest) = self.lasts.unwrap_or((0, OPEN));
+        [ess, lss, efs, lfs, least, greatest, self.from.unwrap_or(0)]
+    }
+
+    // What was told, with what a line says.
+    fn and(self, saying: Saying) -> Result<Told, Fault>
+        ensures { result ≡ Lines.told_and saying self }
+    {
+        match saying {
+            Saying::Nothing | Saying::Sample(_) => Ok(self),
+            Saying::Bounds {
+                pair,
+                least,
+                greatest,
+            } => self.and_bounds(pair, (least, greatest)),
+            Saying::One { single, number } => self.and_one(single, number),
         }
     }
-    if told[7] == UNSAID {
-        return Reading::Wrong {
-            line,
-            fault: Fault::NotAsked,
-        };
+
+    // The same, of two bounds.
+    fn and_bounds(self, pair: Pair, bounds: (u64, u64)) -> Result<Told, Fault>
+        ensures { result ≡ Lines.told_bounds pair bounds self }
+    {
+        Ok(match pair {
+            Pair::Start => Told {
+                start: once(self.start, bounds)?,
+                ..self
+            },
+            Pair::Finish => Told {
+                finish: once(self.finish, bounds)?,
+                ..self
+            },
+            Pair::Lasts => Told {
+                lasts: once(self.lasts, bounds)?,
+                ..self
+            },
+        })
     }
-    Reading::Whole(count)
+
+    // The same, of one number.
+    fn and_one(self, single: Single, number: u64) -> Result<Told, Fault>
+        ensures { result ≡ Lines.told_one single number self }
+    {
+        Ok(match single {
+            Single::From => Told {
+                from: once(self.from, number)?,
+                ..self
+            },
+            Single::Asked => Told {
+                asked: once(self.asked, number)?,
+                ..self
+            },
+        })
+    }
 }
 
-// What taking in a line came to: it is wrong, or there are so many samples now.
-#[derive(Drop)]
-enum Taken {
-    Wrong(Fault),
-    Kept(usize),
+// What is said, where it was not said before.
+fn once<T: Copy>(before: Option<T>, said: T) -> Result<Option<T>, Fault>
+    ensures { result ≡ Lines.once before said }
+{
+    if before.is_some() {
+        return Err(Fault::Again);
+    }
+    Ok(Some(said))
+}
+
+// Reads a text line by line. Its samples are put behind those that there are.
+#[tactic(auto, using(crate::proofs::Turns::at_first, crate::proofs::Turns::goes_on, crate::proofs::Turns::stops, crate::proofs::Turns::not_asked, crate::proofs::Turns::all_read,))]
+fn read(input: &[u8], samples: &mut ArrayVec<u64, 65536>) -> Result<Question, Wrong>
+    requires { (length input.now ≤ 65536) × (samples.old.items ≡ []) }
+    ensures { Steps.ReadAs input.now result samples.new.items }
+{
+    let mut told = SILENT;
+    let mut line = 1;
+    let mut rest = input;
+    while let Some((text, tail)) = first_line(rest) {
+        // Behind a `map_err` with a closure and `?` the goal at the exit stays open.
+        match take_line(text, told, samples) {
+            Ok(more) => told = more,
+            Err(fault) => return Err(Wrong { line, fault }),
+        }
+        line += 1;
+        rest = tail;
+    }
+    let asked = told.asked.ok_or(Wrong {
+        line,
+        fault: Fault::NotAsked,
+    })?;
+    Ok(Question {
+        numbers: told.numbers(),
+        asked,
+    })
 }
 
 // Takes in what a line says.
-fn take_line(line: &[u8], told: &mut [u64], samples: &mut [u64], count: usize) -> Taken
-    requires { (length told.old ≡ 8) × (count < length samples.old) }
-    ensures { Steps.Took line.now told.old samples.old count result told.new samples.new }
+fn take_line(line: &[u8], told: Told, samples: &mut ArrayVec<u64, 65536>) -> Result<Told, Fault>
+    requires { array_vec_len samples.old < 65536 }
+    ensures took { Steps.Took line.now told samples.old.items result samples.new.items }
+    ensures room { array_vec_len samples.new ≤ array_vec_len samples.old + 1 }
 {
-    let saying = statements::says(line);
-    match tell(saying, told) {
-        Check::Faulty(fault) => Taken::Wrong(fault),
-        Check::Fine => Taken::Kept(keep(saying, samples, count)),
+    let saying = statements::says(line)?;
+    let told = told.and(saying)?;
+    if let Saying::Sample(sample) = saying {
+        samples.push(sample);
     }
+    Ok(told)
 }
 
-// Whether a line may stand where it does.
-#[derive(Drop)]
-enum Check {
-    Fine,
-    Faulty(Fault),
-}
-
-// Takes in the numbers that a line says.
-fn tell(saying: Saying, told: &mut [u64]) -> Check
-    requires { length told.old ≡ 8 }
-    ensures { Steps.Told saying told.old result told.new }
+// The first line of a text and what follows it, if the text is not empty. The last line may lack its newline.
+fn first_line(text: &[u8]) -> Option<(&[u8], &[u8])>
+    ensures lines { MatchOption result (Lines.lines text.now ≡ []) (λ p. Lines.lines text.now ≡ p.0.now ∷ Lines.lines p.1.now) }
+    ensures shorter { MatchOption result (length text.now ≡ 0) (λ p. length p.1.now < length text.now) }
 {
-    match saying {
-        Saying::Nothing => Check::Fine,
-        Saying::Bounds {
-            pair,
-            least,
-            greatest,
-        } => tell_bounds(pair, least, greatest, told),
-        Saying::One { single, number } => tell_one(single, number, told),
-        Saying::Sample(_) => Check::Fine,
-        Saying::Wrong(fault) => Check::Faulty(fault),
+    if text.is_empty() {
+        return None;
     }
-}
-
-// Takes in two bounds.
-fn tell_bounds(pair: Pair, least: u64, greatest: u64, told: &mut [u64]) -> Check
-    requires { length told.old ≡ 8 }
-    ensures { Steps.Told (Saying.Bounds pair least greatest) told.old result told.new }
-{
-    let p = pair_place(pair);
-    if told[p] != UNSAID {
-        return Check::Faulty(Fault::Again);
-    }
-    told[p] = least;
-    told[p + 1] = greatest;
-    Check::Fine
-}
-
-// The place of the first number of a statement of two bounds.
-fn pair_place(pair: Pair) -> usize
-    ensures { (result ≡ Lines.pair_place pair) × (result ≤ 4) }
-{
-    match pair {
-        Pair::Start => 0,
-        Pair::Finish => 2,
-        Pair::Lasts => 4,
-    }
-}
-
-// Takes in one number.
-fn tell_one(single: Single, number: u64, told: &mut [u64]) -> Check
-    requires { length told.old ≡ 8 }
-    ensures { Steps.Told (Saying.One single number) told.old result told.new }
-{
-    let p = single_place(single);
-    if told[p] != UNSAID {
-        return Check::Faulty(Fault::Again);
-    }
-    told[p] = number;
-    Check::Fine
-}
-
-// The place of the number of a statement of one.
-fn single_place(single: Single) -> usize
-    ensures { (result ≡ Lines.single_place single) × (result ≤ 7) }
-{
-    match single {
-        Single::From => 6,
-        Single::Asked => 7,
-    }
-}
-
-// Keeps the sample of a line, if it has one, behind the first `count`, and answers how many there are now.
-fn keep(saying: Saying, samples: &mut [u64], count: usize) -> usize
-    requires { count < length samples.old }
-    ensures { Steps.Kept saying samples.old count samples.new result }
-{
-    match saying {
-        Saying::Nothing => count,
-        Saying::Bounds {
-            pair: _,
-            least: _,
-            greatest: _,
-        } => count,
-        Saying::One {
-            single: _,
-            number: _,
-        } => count,
-        Saying::Sample(x) => {
-            samples[count] = x;
-            count + 1
-        }
-        Saying::Wrong(_) => count,
+    match text.iter().position(|&b| b == b'\n') {
+        Some(k) => Some((&text[..k], &text[k + 1..])),
+        None => Some((text, &[])),
     }
 }

@@ -81,6 +81,7 @@ pub fn says(line: &[u8]) -> Result<Saying, Fault>
 fn statement(word: &[u8], rest: &[u8]) -> Result<Saying, Fault>
     ensures { result ≡ Statements.statement word.now rest.now }
 {
+    // A `match` on byte strings leaves open a goal for each byte at which a word may differ, 28 of them.
     if word == b"start".as_slice() {
         return bounds(Pair::Start, rest);
     }
