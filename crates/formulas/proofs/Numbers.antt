@@ -1,13 +1,10 @@
--- The numbers that plans ask for: what each way to ask gives, a turn of the loops that write them, and wait-for by them. Assumes nothing.
+-- The numbers that plans ask for: what each way to ask gives, and wait-for by them. Assumes nothing.
 use Prim.Native.Nat.{ℕ, zero, suc, ◌+◌, ◌*◌, ◌≤◌, ◌<◌}
 use native.Mathlib.Omega.{arith}
-use native.Mathlib.Decide.{ℕ_discrete}
 use mathlib.Core.Path.{◌≡◌, refl, sym, ap, ◌∙◌}
 use mathlib.Core.Bool.{Bool, true, false, cond, ◌&&◌}
 use mathlib.Core.List.{List}
-use lib.ListN.{length, get_or, set, length-set}
 use borrow.Author.Tests.{le-leb}
-use lib.Seq.{get_or-set_same, get_or-set_other}
 use Rattle.rules.specs.Bytes.{byte_at}
 use Rattle.rules.specs.Lists.{count}
 use Rattle.rules.specs.Table.{plan_count, entry, named, children}
@@ -15,7 +12,7 @@ use Rattle.rules.specs.WaitFor.{asks, first_version, node, is_leaf, at_least, as
 use Rattle.rules.specs.declared.Asks.{Asks}
 use Rattle.rules.specs.declared.Asks.TheVariants.{Child, Not, Join, AtLeast}
 use Rattle.rules.specs.declared.Node.{Node}
-use Rattle.formulas.specs.Asked.{number_in, number_asked, Numbered}
+use Rattle.formulas.specs.Asked.{number_in, number_asked}
 
 -- what asks for no number of named children has 256 in its place
 pub no_number : (asked : Asks) → ((m : ℕ) → asked ≡ AtLeast m → ⊥) → 256 ≡ number_in asked
@@ -37,26 +34,6 @@ module _ (t : List ℕ) (p : ℕ) where
     pub node_number : is_leaf t p ≡ false → number_in (asks (node t (entry t p).wait)) ≡ number_asked t p
     unfolding number_asked
     node_number parent = rw (second, parent) refl
-
--- a turn at plan p writes its number
-pub none_numbered : (t : List ℕ) (n : ℕ) (names : List ℕ) → Numbered t n 0 names names
-none_numbered t n names =
-    record { long = refl; numbers = λ q l. absurd (omega arith); before = λ k l. refl; rest = λ k l. refl }
-
-pub numbered_turn :
-    (t : List ℕ) (n p v : ℕ) (old new : List ℕ) → Numbered t n p old new → n + p < length old → v ≡ number_asked t p
-    → Numbered t n (p + 1) old (set new (n + p) v)
-numbered_turn t n p v old new so_far room is =
-    record {
-      long = length-set new (n + p) v ∙ so_far.long;
-      numbers = λ q l. at q (omega arith) (ℕ_discrete q p);
-      before = λ k l. get_or-set_other new (n + p) k v 0 (λ e. omega arith) ∙ so_far.before k l;
-      rest = λ k l. get_or-set_other new (n + p) k v 0 (λ e. omega arith) ∙ so_far.rest k (omega arith);
-    }
-  where
-    at : (q : ℕ) → q ≤ p → Dec (q ≡ p) → get_or (set new (n + p) v) (n + q) 0 ≡ number_asked t q
-    at q l (yes e) = rw e (get_or-set_same new (n + p) v 0 (omega (arith, so_far.long)) ∙ is)
-    at q l (no d) = get_or-set_other new (n + p) (n + q) v 0 (λ e. d (omega arith)) ∙ so_far.numbers q (omega arith)
 
 -- wait-for, where its parts are known
 module _ (t : List ℕ) (p : ℕ) (f : ℕ → Bool) where

@@ -2,7 +2,7 @@
 // All of it costs O(plans + nodes). Assumes a table that has passed the checks before 22.
 #![tactic(auto)]
 
-ghost use Rattle.std.specs.Prelude.{◌≡◌, false, ◌||◌, ℕ, ◌+◌, ◌<◌, ◌≤◌, leb, ltb, length, min};
+ghost use Rattle.std.specs.Prelude.{◌≡◌, false, ◌||◌, ℕ, ◌<◌, ◌≤◌, leb, ltb, length, min};
 ghost use Rattle.std.specs.Option.{MatchOption};
 ghost use Rattle.rules.specs.Lists.{least, some_below};
 ghost use Rattle.rules.specs.WaitFor.{asks, operands, node_count, node, owner};

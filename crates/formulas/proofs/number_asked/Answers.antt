@@ -1,9 +1,10 @@
 -- `number_asked` meets its contract: a wait number, none of a leaf, or what the first node of a formula asks for. Assumes nothing.
-use Rattle.std.proofs.Common.{◌≡◌, rules, sym, ap, ◌∙◌, arith}
+use Rattle.std.proofs.Common.{sym, ap, ◌∙◌, arith}
 use Rattle.rules.specs.Table.{body_of, is_body}
 use Rattle.rules.specs.WaitFor.{asks, node}
 use Rattle.rules.specs.declared.Body.TheVariants.{Leaf}
 use Rattle.rules.specs.declared.PlanEntry.{PlanEntry}
+use Rattle.rules.proofs.Derived.{same_body}
 use Rattle.formulas.specs.Asked.{number_in}
 use Rattle.formulas.proofs.Evaluated.{first_there}
 use Rattle.formulas.proofs.Numbers.{first_number, no_number, leaf_number, node_number}
@@ -15,14 +16,14 @@ returns-then-is_first_version c =
 
 pub returns-then-eq : goal.returns-then-eq
 returns-then-eq c =
-    let is : c.eq.result ≡ is_body Leaf c.body_kind.result = search rules in
+    let is = c.eq.ensures ∙ same_body c.body_kind.result Leaf in
     let leaf = sym (is ∙ ap (is_body Leaf) (c.body_kind.ensures ∙ ap body_of c.entry_at-e.ensures)) ∙ c.if-eq.true in
     leaf_number _ _ (sym c.is_first_version.ensures ∙ c.if-is_first_version.false) leaf
 
 -- where it is no leaf, its first node is there
 pub node_at-requires : goal.node_at-requires
 node_at-requires c =
-    let is : c.eq.result ≡ is_body Leaf c.body_kind.result = search rules in
+    let is = c.eq.ensures ∙ same_body c.body_kind.result Leaf in
     let leaf = sym (is ∙ ap (is_body Leaf) (c.body_kind.ensures ∙ ap body_of c.entry_at-e.ensures)) ∙ c.if-eq.false in
     let first = c.from-2.ensures ∙ ap (λ (e : PlanEntry). e.wait) c.entry_at-e.ensures in
     let formed = c.requires.0.formed (sym c.is_first_version.ensures ∙ c.if-is_first_version.false) in
@@ -32,7 +33,7 @@ node_at-requires c =
 -- what the node says is what the plan asks for
 pub returns-in-AtLeast : goal.returns-in-AtLeast
 returns-in-AtLeast c =
-    let is : c.eq.result ≡ is_body Leaf c.body_kind.result = search rules in
+    let is = c.eq.ensures ∙ same_body c.body_kind.result Leaf in
     let leaf = sym (is ∙ ap (is_body Leaf) (c.body_kind.ensures ∙ ap body_of c.entry_at-e.ensures)) ∙ c.if-eq.false in
     let first = c.from-2.ensures ∙ ap (λ (e : PlanEntry). e.wait) c.entry_at-e.ensures in
     let asked = c.asks.ensures ∙ ap asks (c.node_at.ensures ∙ ap (node c.args.table.now) first) in
@@ -40,7 +41,7 @@ returns-in-AtLeast c =
 
 pub returns-in_default : goal.returns-in_default
 returns-in_default c =
-    let is : c.eq.result ≡ is_body Leaf c.body_kind.result = search rules in
+    let is = c.eq.ensures ∙ same_body c.body_kind.result Leaf in
     let leaf = sym (is ∙ ap (is_body Leaf) (c.body_kind.ensures ∙ ap body_of c.entry_at-e.ensures)) ∙ c.if-eq.false in
     let first = c.from-2.ensures ∙ ap (λ (e : PlanEntry). e.wait) c.entry_at-e.ensures in
     let asked = c.asks.ensures ∙ ap asks (c.node_at.ensures ∙ ap (node c.args.table.now) first) in
