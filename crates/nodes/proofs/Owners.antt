@@ -325,19 +325,43 @@ module _
     unfolding bad_rank
     bad_rank_is counts counted = beyond_is (node t i) _ ∙ rw (counted o owner_plan, owner_is) refl
 
-    -- and what that for the lowest plan that asks for too many tests
+    -- whether its owner asks for too many in node i, and in one of the nodes up to it
+    module _
+        (e : Node)
+        (is : e ≡ node t i)
+        (w : ℕ)
+        (at : w ≡ byte_at owners i)
+        (names : List ℕ)
+        (collected : (q : ℕ) → q < n → get_or names q 0 ≡ set_of t q (λ c. named (entry t c)))
+        (enough : Bool)
+        (says : enough ≡ leb e.a (ones (get_or names w 0)))
+      where
+        here : w ≡ owner t i
+        here = at ∙ owner_is
+
+        many_is : not enough ≡ too_many t (owner t i) (node t i).a
+        unfolding too_many
+        many_is =
+            ap not says
+            ∙ not_leb e.a (ones (get_or names w 0))
+            ∙ rw (collected w (omega (arith, at, owner_plan)), set_ones t w (λ c. named (entry t c)), is, here) refl
+
+        asks_here : asks_too_many t w i ≡ (eqb e.kind 5 && not enough)
+        unfolding asks_too_many
+        asks_here = rw (many_is, is, here, eq-eqb (owner t i) (owner t i) refl) refl
+
+        asking_here : asking t (suc i) w ≡ (asking t i w || (eqb e.kind 5 && not enough))
+        unfolding some_below
+        asking_here = ap (λ (b : Bool). asking t i w || b) asks_here
+
+    -- and what the search for the lowest plan that asks for too many tests
     pub too_many_is :
         bad_node t i ≡ false → (names : List ℕ) → ((q : ℕ) → q < n → get_or names q 0 ≡ set_of t q (λ c. named (entry t c)))
         → asks_more (asks (node t i)) (get_or names o 0) ≡ asks_too_many t (owner t i) i
-    unfolding asks_too_many too_many
     too_many_is good names collected =
-        let e : Node = node t i in
-        let many =
-        not_leb e.a (ones (get_or names o 0))
-        ∙ ap (λ (x : ℕ). ltb x e.a) (ap ones (collected o owner_plan) ∙ set_ones t o (λ c. named (entry t c)))
-        in
-        more_is e (few_kinds t i good) (get_or names o 0)
-        ∙ rw (eq-eqb (owner t i) (owner t i) refl) (rw many (rw owner_is refl))
+        more_is (node t i) (few_kinds t i good) (get_or names o 0)
+        ∙ sym (asks_here (node t i) refl o refl names collected _ refl)
+        ∙ ap (λ (p : ℕ). asks_too_many t p i) owner_is
 
     -- after node i the lowest plan that asks for too many is its owner, if that does and none below was found before
     asks_other : (p : ℕ) → (owner t i ≡ p → ⊥) → asks_too_many t p i ≡ false
