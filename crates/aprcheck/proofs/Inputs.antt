@@ -1,29 +1,31 @@
--- How long an input's table is, case by case, and what the verdict on its two parts answers. Assumes nothing.
-use Prim.Native.Nat.{ℕ, ◌-◌, ◌≤◌, ◌<◌}
-use mathlib.Core.Path.{◌≡◌}
-use mathlib.Core.List.{List}
-use lib.ListN.{length, take, drop}
-use borrow.Author.Tests.{le-leb, lt-leb}
+-- How long an input's table is, what the verdict on its two parts answers, and what is written for one that is accepted. Assumes nothing.
+use Rattle.std.proofs.Common.{◌≡◌, ℕ, ◌-◌, ◌^◌, ◌<◌, ◌≤◌, List, ◌++◌, length, take, drop, Bool, true, false, cond, leb, min, Ok, Err, append_assoc, arith, refl}
+use borrow.Author.Tests.{leb-true, leb-false}
+use borrow.Author.Rules.{part_to_end}
+use Rattle.std.specs.Fmt as std
+use Rattle.rules.specs.Bytes.{text}
 use Rattle.rules.specs.WaitFor.{table_size}
 use Rattle.rules.specs.Answers.{header_check, Judged, Verdict, Done}
-use Rattle.rules.specs.Program.{table_length, Answered, judged}
+use Rattle.rules.specs.Program.{table_length, Answered, too_long, judged, line}
 use Rattle.rules.specs.declared.Refusal.{Refusal}
-use borrow.Author.Rules.{part_to_end}
-use Rattle.std.specs.Prelude.{Err}
+use Rattle.rules.specs.declared.Refusal.TheVariants.{InputLong}
+use Rattle.text.proofs.Decimals.{written}
 
 module _ (input : List ℕ) where
   pub all_of_refused : (why : Refusal) → header_check input ≡ Err why → table_length input ≡ length input
   unfolding table_length
   all_of_refused why e = simp e
 
-  module _ (done : header_check input ≡ Done) where
-    pub whole_table : table_size input ≤ length input → table_length input ≡ table_size input
-    unfolding table_length
-    whole_table l = simp (done, le-leb _ _ l)
+  pub table_or_all : header_check input ≡ Done → table_length input ≡ min (table_size input) (length input)
+  unfolding table_length
+  table_or_all done = simp done (less (leb (table_size input) (length input)) refl)
+    where
+      less : (b : Bool) → leb (table_size input) (length input) ≡ b → cond b (table_size input) (length input) ≡ min (table_size input) (length input)
+      less true e = omega (arith, leb-true _ _ e)
+      less false e = omega (arith, leb-false _ _ e)
 
-    pub all_of_short : length input < table_size input → table_length input ≡ length input
-    unfolding table_length
-    all_of_short l = simp (done, lt-leb _ _ l)
+  pub long : 65536 < length input → Answered input (Err InputLong)
+  long l = too_long l
 
   -- the verdict on the two parts, as the code cuts them
   pub answers :
@@ -31,3 +33,8 @@ module _ (input : List ℕ) where
       → Judged 2 (take k input) (take (length input - k) (drop k input)) v
       → Answered input v
   answers k e l j = judged l (rw (part_to_end input k, e) at j)
+
+pub accepted :
+    (n steps : ℕ) (v : Verdict) → v ≡ Ok steps → n < 2 ^ 64 → steps < 2 ^ 64
+    → text "accepted " ++ (std.decimal n ++ (text " " ++ (std.decimal steps ++ text "\n"))) ≡ line n v
+accepted n steps v is l m = rw (is, written n l, written steps m) (simp append_assoc)

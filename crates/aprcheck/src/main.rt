@@ -1,45 +1,60 @@
 // The program `aprcheck` of document 01: a table and then a record on standard input, one line on standard output.
-// `report` is the whole of it on slices: its contract says that the line is that of a verdict which the definitions permit.
+// `report` is the whole of it on a slice: its contract says that the line is that of a verdict which the definitions permit.
 // Where standard input cannot be read to its end there is no input, and so no line: `main` says so on standard error.
 // Assumes what crate `text` does of the system's read and write.
 #![tactic(auto)]
 
-ghost use Rattle.std.specs.Prelude.{◌≡◌, ◌<◌, ◌≤◌, length, take};
-ghost use Rattle.io.specs.Counts.{IsPrefixLen};
+ghost use Rattle.std.specs.Prelude.{◌≡◌, ◌≤◌, length, Some, Ok, Err};
 ghost use Rattle.rules.specs.Table.{plan_count};
 ghost use Rattle.rules.specs.Program.{table_length, Answered, line, Printed};
 
-use rules::{Refusal};
-use text::Input;
+use rules::Refusal;
+use std::fmt;
+use text::RefusalLine;
 
 fn main(rt: HostRuntime) {
     let mut input = text::buffer();
-    let Input::Whole(n) = text::read_input(&mut rt.stdin(), &mut input) else {
-        text::complain(
-            &mut rt.stderr(),
-            b"aprcheck: standard input cannot be read; nothing is judged\n",
-        );
+    let Ok(n) = text::read_input(&mut rt.stdin(), &mut input) else {
+        let _ = eprintln!(rt; "aprcheck: standard input cannot be read; nothing is judged");
         return;
     };
-    let mut out = [0u8; 128];
-    let end = report(&input[..n], &mut out);
-    text::write(
-        &mut rt.stdout(),
-        &mut rt.stderr(),
-        &out[..end],
-        b"aprcheck: standard output cannot be written\n",
-    );
+    if print!(rt; "{}", report(&input[..n])).is_err() {
+        let _ = eprintln!(rt; "aprcheck: standard output cannot be written");
+    }
 }
 
-// Puts the line for an input at the start of `out`, and answers where it ends.
-fn report(input: &[u8], out: &mut [u8; 128]) -> usize
-    ensures within { IsPrefixLen result out.new }
-    ensures printed { Printed input.now (take result out.new) }
+// The line for a verdict on a table of so many plans.
+#[derive(Clone, Copy)]
+struct Line {
+    plans: u16,
+    verdict: Result<u16, Refusal>,
+}
+
+impl fmt::Display for Line {
+    ghost output = { λ l. Some (line l.plans l.verdict) };
+
+    #[tactic(auto, using(crate::proofs::Inputs::accepted))]
+    fn fmt<W: fmt::Write>(&self, f: &mut fmt::Formatter<W>) -> fmt::Result {
+        let plans = self.plans;
+        match self.verdict {
+            Ok(steps) => writeln!(f, "accepted {plans} {steps}"),
+            Err(why) => write!(f, "{}", RefusalLine(why)),
+        }
+    }
+}
+
+// The line for an input.
+fn report(input: &[u8]) -> Line
+    ensures { Printed input.now (line result.plans result.verdict) }
 {
-    line_of(plan_count(input), answer(input), out)
+    Line {
+        plans: plan_count(input),
+        verdict: answer(input),
+    }
 }
 
 // The verdict on an input, under rule 2: its length is looked at first.
+#[tactic(auto, using(crate::proofs::Inputs::long, crate::proofs::Inputs::answers))]
 fn answer(input: &[u8]) -> Result<u16, Refusal>
     ensures { Answered input.now result }
 {
@@ -51,19 +66,13 @@ fn answer(input: &[u8]) -> Result<u16, Refusal>
 }
 
 // How many bytes of the input are the table.
+#[tactic(auto, using(crate::proofs::Inputs::table_or_all, crate::proofs::Inputs::all_of_refused))]
 fn table_length(input: &[u8]) -> usize
     ensures { (result ≡ table_length input.now) × (result ≤ length input.now) }
 {
     match table::header_check(input) {
+        Ok(()) => table::table_size(input).min(input.len()),
         Err(_) => input.len(),
-        Ok(()) => {
-            let whole = table::table_size(input);
-            if whole <= input.len() {
-                whole
-            } else {
-                input.len()
-            }
-        }
     }
 }
 
@@ -72,25 +81,4 @@ fn plan_count(input: &[u8]) -> u16
     ensures { result ≡ plan_count input.now }
 {
     reading::u16_within(input, 5)
-}
-
-// Puts the line for a verdict on a table of n plans at the start of `out`, and answers where it ends.
-fn line_of(n: u16, verdict: Result<u16, Refusal>, out: &mut [u8]) -> usize
-    requires { 128 ≤ length out.old }
-    ensures { (result ≤ 128) × (take result out.new ≡ line n verdict) }
-{
-    match verdict {
-        Ok(steps) => accepted_line(n, steps, out),
-        Err(why) => text::put_refusal(why, out, 0),
-    }
-}
-
-// The line for a record of so many steps that is accepted.
-fn accepted_line(n: u16, steps: u16, out: &mut [u8]) -> usize
-    requires { 128 ≤ length out.old }
-    ensures { (result ≤ 128) × (take result out.new ≡ line n (Ok steps)) }
-{
-    let at = output::put(b"accepted ", out, 0);
-    let at = text::put_number(n as u64, b' ', out, at);
-    text::put_number(steps as u64, b'\n', out, at)
 }
