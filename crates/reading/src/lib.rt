@@ -95,7 +95,7 @@ pub fn u16_at(s: &[u8], i: usize) -> u16
     requires { i + 2 ≤ length s.now }
     ensures { result ≡ u16_at s.now i }
 {
-    u16::from(s[i]) + 256 * u16::from(s[i + 1])
+    u16::from_le_bytes([s[i], s[i + 1]])
 }
 
 // The 32-bit number at a place of a slice.
@@ -103,7 +103,7 @@ pub fn u32_at(s: &[u8], i: usize) -> u32
     requires { i + 4 ≤ length s.now }
     ensures { result ≡ u32_at s.now i }
 {
-    u32::from(u16_at(s, i)) + 65536 * u32::from(u16_at(s, i + 2))
+    u32::from_le_bytes([s[i], s[i + 1], s[i + 2], s[i + 3]])
 }
 
 // A byte of a slice, or 0 past its end.
@@ -118,5 +118,5 @@ pub fn u16_within(s: &[u8], i: usize) -> u16
     requires { i < 65536 }
     ensures { result ≡ u16_at s.now i }
 {
-    u16::from(byte_at(s, i)) + 256 * u16::from(byte_at(s, i + 1))
+    u16::from_le_bytes([byte_at(s, i), byte_at(s, i + 1)])
 }

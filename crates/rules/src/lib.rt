@@ -120,15 +120,6 @@ impl From<PlanState> for u8 {
     }
 }
 
-// FOR A WHILE: callers are to use from_byte.
-impl From<u8> for PlanState {
-    ghost from_gives = { λ b state. state ≡ state_of b };
-
-    fn from(b: u8) -> PlanState {
-        PlanState::from_byte(b)
-    }
-}
-
 // Why a plan moved in a step, in the order of the codes.
 #[derive(Clone, Copy)]
 #[repr(u8)]
@@ -231,9 +222,9 @@ impl PlanEntry {
     fn holding(self, word: u32) -> u32
         ensures { (c : Condition) → is_set (bit_of c) result ≡ holds c self word }
     {
-        let present = self.present as u32;
-        let manual = self.manual as u32;
-        let overridable = self.overridable as u32;
+        let present = u32::from(self.present);
+        let manual = u32::from(self.manual);
+        let overridable = u32::from(self.overridable);
         let held = (word & (!manual | (word >> 8))) | (overridable & (word >> 14));
         (present & held) | (!present & PlanEntry::ABSENT_HOLDS)
     }
@@ -250,15 +241,16 @@ impl PlanEntry {
         ensures { result ≡ satisfiable c self word }
     {
         let k = c.bit();
-        !is_set(self.present as u32, k) | is_set(word, 6 + k) | is_set(self.overridable as u32, k)
+        !is_set(u32::from(self.present), k)
+            | is_set(word, 6 + k)
+            | is_set(u32::from(self.overridable), k)
     }
 
     // The plan's body. A byte above 8 is none: check 7 refuses it, and here it counts as if-then-else.
     pub fn body_kind(self) -> Body
         ensures { result ≡ body_of self }
     {
-        let b = self.body;
-        match b {
+        match self.body {
             0 => Body::Leaf,
             1 => Body::Sequential,
             2 => Body::Parallel,
@@ -275,21 +267,21 @@ impl PlanEntry {
     pub fn retries_aborted(self) -> bool
         ensures { result ≡ retry_aborted self }
     {
-        is_set(self.flags as u32, 0)
+        is_set(u32::from(self.flags), 0)
     }
 
     // Whether the plan waits for its optional children too.
     pub fn waits_for_optional(self) -> bool
         ensures { result ≡ wait_for_optional self }
     {
-        is_set(self.flags as u32, 1)
+        is_set(u32::from(self.flags), 1)
     }
 
     // Whether the plan is named in its parent's wait-for.
     pub fn is_named(self) -> bool
         ensures { result ≡ named self }
     {
-        is_set(self.flags as u32, 2)
+        is_set(u32::from(self.flags), 2)
     }
 
     // Whether wait-for holds, by the wait number, of a set of named children, a bit for each.
@@ -300,7 +292,7 @@ impl PlanEntry {
         if self.wait == 0 {
             return true;
         }
-        at_least(self.wait as u32, set)
+        at_least(u32::from(self.wait), set)
     }
 }
 
@@ -308,7 +300,7 @@ impl PlanEntry {
 pub fn at_least(m: u32, set: u64) -> bool
     ensures { result ≡ leb m (ones set) }
 {
-    m <= u64::count_ones(set)
+    m <= set.count_ones()
 }
 
 // A node of a wait-for formula: its four bytes of a table of version 2.
@@ -356,8 +348,7 @@ impl Node {
     pub fn asks(self) -> Asks
         ensures { result ≡ asks self }
     {
-        let kind = self.kind;
-        match kind {
+        match self.kind {
             0 => Asks::Child(self.a),
             1 => Asks::Not(self.a),
             2 => Asks::Join(Joint::And, self.a, self.b),

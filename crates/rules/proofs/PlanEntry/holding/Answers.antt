@@ -44,5 +44,5 @@ returns c condition =
     let h = bit_fits condition in
     let manual_flips = not_set 32 k e.manual h (omega (arith, c.well_formed)) in
     let present_flips = not_set 32 k e.present h (omega (arith, c.well_formed)) in
-    simp (or_set, and_set, shift_set k 8 x, shift_set k 14 x, manual_flips, present_flips, absent_bit condition)
+    simp (c.from-present.ensures, c.from-manual.ensures, c.from-overridable.ensures, or_set, and_set, shift_set k 8 x, shift_set k 14 x, manual_flips, present_flips, absent_bit condition)
     (chosen (is_set k e.present) (present_holds k e x) (absent_holds condition))

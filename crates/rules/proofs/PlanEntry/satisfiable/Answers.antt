@@ -4,4 +4,4 @@ use Rattle.rules.proofs.PlanEntry.satisfiable.Goals as goal
 
 pub returns : goal.returns
 unfolding satisfiable
-returns c = simp (← c.bit-k.ensures.is, c.is_set-3.ensures, c.is_set-2.ensures, c.is_set.ensures)
+returns c = simp (c.from.ensures, c.from-2.ensures, ← c.bit-k.ensures.is, c.is_set-3.ensures, c.is_set-2.ensures, c.is_set.ensures)
