@@ -1,26 +1,24 @@
 -- What an input comes to, by its length and its version, and that its moved table fits the program's buffer. Assumes nothing.
 use Prim.Native.Nat.{ℕ, ◌≤◌, ◌<◌}
 use native.Mathlib.Omega.{arith}
-use mathlib.Core.Path.{◌≡◌, refl, sym, ap, ◌∙◌, subst}
+use mathlib.Core.Path.{◌≡◌, refl, sym, ap, ◌∙◌}
 use mathlib.Core.Bool.{Bool, true, false, cond}
 use mathlib.Core.List.{List, []}
-use lib.ListN.{length}
+use lib.ListN.{length, take}
+use lib.Seq.{length-take-le}
 use borrow.Author.Tests.{lt-ltb, le-ltb}
-use Rattle.io.specs.Counts.{IsPrefixLen}
 use Rattle.rules.specs.Table.{plan_count}
 use Rattle.rules.specs.WaitFor.{first_version}
-use Rattle.rules.specs.Answers.{◌and_then◌, Outcome, Done}
+use Rattle.rules.specs.Answers.{◌and_then◌, Outcome, Verdict, Done}
 use Rattle.rules.specs.Program.{line}
 use Rattle.rules.specs.declared.Refusal.{Refusal}
 use Rattle.rules.specs.declared.Refusal.TheVariants.{InputLong}
-use Rattle.rules.proofs.Outcomes.{pass, pass_last, stop, then_done, then_next, then_stops, refused_not_done}
-use Rattle.versions.specs.Versions.{in_version1, in_version2, check_to1, check_to2, room_check}
+use Rattle.rules.proofs.Outcomes.{pass, pass_last, stop, then_done, then_next, then_stops, refused_not_done, first_done}
+use Rattle.versions.specs.Versions.{in_version1, in_version2, check_to1, check_to2, room_check, move_answer, move_output}
 use Rattle.versions.proofs.Laid.{length_1, length_2, nodes_within}
-use Rattle.versions.proofs.Moves.{has_plans, from_second}
-use Rattle.aptmove.specs.Moving.{check, moved, printed, complained, Within}
-use Rattle.aptmove.specs.declared.Told.{Told}
-use Rattle.aptmove.specs.declared.Told.TheVariants.{Table, Complaint}
-use Rattle.std.specs.Prelude.{Err}
+use Rattle.versions.proofs.Moves.{has_plans, from_second, was_moved, was_refused, written_first}
+use Rattle.aptmove.specs.Moving.{check, moved, printed, complained, on_output, on_error, Within}
+use Rattle.std.specs.Prelude.{Ok, Err}
 
 module _ (input : List ℕ) where
   pub too_long : 65536 < length input → check input ≡ Err InputLong
@@ -28,17 +26,19 @@ module _ (input : List ℕ) where
   too_long l = stop _ _ _ (lt-ltb _ _ l)
 
   -- what the version decides
-  abbrev pub check_if : Bool → Outcome
+  abbrev check_if : Bool → Outcome
   check_if first = cond first (check_to2 input) (check_to1 input)
 
-  abbrev pub moved_if : Bool → List ℕ
+  abbrev moved_if : Bool → List ℕ
   moved_if first = cond first (in_version2 input) (in_version1 input)
 
-  pub by_version :
-      (first : Bool) → first_version input ≡ first → length input ≤ 65536
-      → (check input ≡ check_if first) × (moved input ≡ moved_if first)
-  unfolding check moved
-  by_version first e l = (pass _ _ _ (le-ltb _ _ l) ∙ ap check_if e, ap moved_if e)
+  pub check_by : (first : Bool) → first_version input ≡ first → length input ≤ 65536 → check input ≡ check_if first
+  unfolding check
+  check_by first e l = pass _ _ _ (le-ltb _ _ l) ∙ ap check_if e
+
+  pub moved_by : (first : Bool) → first_version input ≡ first → moved input ≡ moved_if first
+  unfolding moved
+  moved_by first e = ap moved_if e
 
   -- a table in version 2, and in version 1
   fits_2 : check_to2 input ≡ Done → length (in_version2 input) ≤ 4096
@@ -73,17 +73,36 @@ module _ (input : List ℕ) where
       go (Err which) d = d ∙ sym (then_stops _ _ which d) ∙ e
 
   -- what is written, by how the checks end
-  pub if_done : check input ≡ Done → (printed input ≡ moved input) × (complained input ≡ [])
+  if_done : check input ≡ Done → (printed input ≡ moved input) × (complained input ≡ [])
   unfolding printed complained
   if_done e = (rw (e, printed) refl, rw (e, complained) refl)
 
-  pub if_refused : (why : Refusal) → check input ≡ Err why → (printed input ≡ []) × (complained input ≡ line 0 (Err why))
+  if_refused : (why : Refusal) → check input ≡ Err why → (printed input ≡ []) × (complained input ≡ line 0 (Err why))
   unfolding printed complained
   if_refused why e = (rw (e, printed) refl, rw (e, complained) refl)
 
--- what was told lies in the buffer
-pub table_within : (out : List ℕ) {told : Told} {end : ℕ} → told ≡ Table end → Within told out → IsPrefixLen end out
-table_within out is lies = subst (λ (r : Told). Within r out) is lies
+  -- so a move into a buffer with room for it leaves what is written
+  pub record Reported (v : Verdict) (out : List ℕ) : Type 0 where
+    pub within : Within v out
+    pub output : on_output v out ≡ printed input
+    pub error : on_error v ≡ complained input
 
-pub complaint_within : (out : List ℕ) {told : Told} {end : ℕ} → told ≡ Complaint end → Within told out → IsPrefixLen end out
-complaint_within out is lies = subst (λ (r : Told). Within r out) is lies
+  pub reported :
+      (v : Verdict) (before after : List ℕ) → 4096 ≤ length before → length after ≡ length before
+      → v ≡ move_answer (check input) (moved input) before
+      → after ≡ move_output (check input) (moved input) before
+      → Reported v after
+  reported (Ok end) before after room same answer left =
+      let is = was_moved _ _ _ _ (answer) in
+      let done = first_done _ _ is.0 in
+      let written = ap (λ (k : ℕ). take k after) is.1 ∙ ap (take (length (moved input))) left ∙ written_first _ _ _ is.0 in
+      let says = if_done done in
+      let short = fits done in
+      record {
+        within = (omega arith, sym (length-take-le _ _ (omega arith)));
+        output = written ∙ sym says.0;
+        error = sym says.1;
+      }
+  reported (Err why) before after room same answer left =
+      let says = if_refused why (never_short why before room (was_refused _ _ _ _ (answer))) in
+      record { within = tt; output = sym says.0; error = sym says.1 }

@@ -4,12 +4,10 @@ use Rattle.std.proofs.Math.Bool.{cond}
 use mathlib.Core.List.{List, []}
 use Rattle.io.specs.Counts.{IsPrefixLen}
 use Rattle.rules.specs.WaitFor.{first_version}
-use Rattle.rules.specs.Answers.{◌and_then◌, refuse_if, Outcome}
+use Rattle.rules.specs.Answers.{◌and_then◌, refuse_if, Outcome, Verdict}
 use Rattle.rules.specs.Program.{line}
 use Rattle.rules.specs.declared.Refusal.TheVariants.{InputLong}
 use Rattle.versions.specs.Versions.{in_version1, in_version2, check_to1, check_to2}
-use Rattle.aptmove.specs.declared.Told.{Told}
-use Rattle.aptmove.specs.declared.Told.TheVariants.{Table, Complaint}
 
 module _ (input : List ℕ) where
   -- 16 first; then, of a table of version 1, the checks of a move to version 2, and of any other those of a move to version 1
@@ -32,16 +30,16 @@ module _ (input : List ℕ) where
   unfolding check
   complained = elim check [ Ok tt ↦ [] | Err why ↦ line 0 (Err why) ]
 
--- what goes on each of the two, by what was told and the bytes of the buffer
-abbrev pub on_output : Told → List ℕ → List ℕ
-on_output (Table end) out = take end out
-on_output (Complaint end) out = []
+-- what goes on each of the two, by what is answered and the bytes of the buffer
+abbrev pub on_output : Verdict → List ℕ → List ℕ
+on_output (Ok end) out = take end out
+on_output (Err why) out = []
 
-abbrev pub on_error : Told → List ℕ → List ℕ
-on_error (Table end) out = []
-on_error (Complaint end) out = take end out
+abbrev pub on_error : Verdict → List ℕ
+on_error (Ok end) = []
+on_error (Err why) = line 0 (Err why)
 
 -- the buffer has these bytes
-abbrev pub Within : Told → List ℕ → Type 0
-Within (Table end) out = IsPrefixLen end out
-Within (Complaint end) out = IsPrefixLen end out
+abbrev pub Within : Verdict → List ℕ → Type 0
+Within (Ok end) out = IsPrefixLen end out
+Within (Err why) out = Unit {0}

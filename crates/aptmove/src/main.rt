@@ -9,50 +9,39 @@ ghost use Rattle.rules.specs.WaitFor.{first_version};
 ghost use Rattle.versions.specs.Versions.{move_answer, move_output};
 ghost use Rattle.aptmove.specs.Moving.{check, moved, printed, complained, on_output, on_error, Within};
 
-use rules::{Refusal};
-use text::Input;
-
-// What an input comes to: so many bytes of a table, or of a line that says why there is none.
-#[derive(Drop)]
-pub enum Told {
-    Table(usize),
-    Complaint(usize),
-}
+use rules::Refusal;
+use text::RefusalLine;
 
 fn main(rt: HostRuntime) {
     let mut input = text::buffer();
-    let Input::Whole(n) = text::read_input(&mut rt.stdin(), &mut input) else {
-        text::complain(
-            &mut rt.stderr(),
-            b"aptmove: standard input cannot be read; nothing is moved\n",
-        );
+    let Ok(n) = text::read_input(&mut rt.stdin(), &mut input) else {
+        let _ = eprintln!(rt; "aptmove: standard input cannot be read; nothing is moved");
         return;
     };
     let mut out = [0u8; 4096];
     match report(&input[..n], &mut out) {
-        Told::Table(end) => text::write(
-            &mut rt.stdout(),
-            &mut rt.stderr(),
-            &out[..end],
-            b"aptmove: standard output cannot be written\n",
-        ),
-        Told::Complaint(end) => text::complain(&mut rt.stderr(), &out[..end]),
+        Ok(end) => {
+            if rt.stdout().write_all(&out[..usize::from(end)]).is_err() {
+                let _ = eprintln!(rt; "aptmove: standard output cannot be written");
+            }
+        }
+        Err(why) => {
+            let _ = eprint!(rt; "{}", RefusalLine(why));
+        }
     }
 }
 
-// Puts what is written for an input at the start of `out`, and answers where it ends and on which stream it goes.
-fn report(input: &[u8], out: &mut [u8; 4096]) -> Told
+// Puts the moved table of an input at the start of `out`, for standard output, and answers where it ends; or why there is none, for
+// standard error.
+fn report(input: &[u8], out: &mut [u8; 4096]) -> Result<u16, Refusal>
     ensures within { Within result out.new }
     ensures output { on_output result out.new ≡ printed input.now }
-    ensures error { on_error result out.new ≡ complained input.now }
+    ensures error { on_error result ≡ complained input.now }
 {
-    match answer(input, out) {
-        Ok(bytes) => Told::Table(bytes as usize),
-        Err(why) => Told::Complaint(text::put_refusal(why, out, 0)),
-    }
+    answer(input, out)
 }
 
-// Puts the moved table of an input at the start of `out`: its length is looked at first.
+// The same of any slice: the length of the input is looked at first.
 fn answer(input: &[u8], out: &mut [u8]) -> Result<u16, Refusal>
     ensures is { result ≡ move_answer (check input.now) (moved input.now) out.old }
     ensures left { out.new ≡ move_output (check input.now) (moved input.now) out.old }
