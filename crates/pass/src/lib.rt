@@ -29,8 +29,10 @@ pub fn advance(scene: &Scene, new: &mut [u8])
         ≡ step_under scene.now.rule scene.now.table.now scene.now.old.now scene.now.words.now (picks_of scene.now.picks.now) }
     ensures rest { Beyond scene.now.n new.old new.new }
 {
+    // its own copy, which no write to `new` can change: so the compiler reads its fields once, and not again for each plan
+    let scene = *scene;
     for p in 0..scene.n {
-        new[p] = u8::from(next_state(scene, new, p));
+        new[p] = u8::from(next_state(&scene, new, p));
     }
 }
 
