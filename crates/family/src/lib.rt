@@ -46,6 +46,7 @@ impl<'a> Scene<'a> {
     // Whether plan p's parent considers, activates or retries it, by the parent's body, its children and its word (RULES section 6): none
     // of them unless the parent was and stays Activated, and the last only if the parent has retry-aborted. The root moves as if it had a
     // parent that considers it when Inactive and activates it when Ready; nobody retries it.
+    #[inline(always)]
     pub fn orders(&self, after: PlanState, p: usize) -> Orders
         requires facts { StepFacts self.now.table.now self.now.old.now self.now.ranks.now self.now.sets.now self.now.picks.now }
         requires named { NamedWords self.now.table.now self.now.names.now }
@@ -53,6 +54,7 @@ impl<'a> Scene<'a> {
         ensures { result ≡ orders_at self.now.table.now self.now.old.now self.now.words.now
             (Step·chosen self.now.table.now self.now.old.now (picks_of self.now.picks.now)) after p }
     {
+        // compiled into the move that asks: a call would be handed the scene, and for that alone it would have to lie in memory
         if p == 0 {
             return ROOT_ORDERS;
         }
