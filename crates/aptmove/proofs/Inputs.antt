@@ -82,12 +82,12 @@ module _ (input : List ℕ) where
   if_refused why e = (rw (e, printed) refl, rw (e, complained) refl)
 
   -- so a move into a buffer with room for it leaves what is written
-  pub record Reported (v : Verdict) (out : List ℕ) : Type 0 where
+  record Reported (v : Verdict) (out : List ℕ) : Type 0 where
     pub within : Within v out
     pub output : on_output v out ≡ printed input
     pub error : on_error v ≡ complained input
 
-  pub reported :
+  reported :
       (v : Verdict) (before after : List ℕ) → 4096 ≤ length before → length after ≡ length before
       → v ≡ move_answer (check input) (moved input) before
       → after ≡ move_output (check input) (moved input) before
@@ -106,3 +106,14 @@ module _ (input : List ℕ) where
   reported (Err why) before after room same answer left =
       let says = if_refused why (never_short why before room (was_refused _ _ _ _ (answer))) in
       record { within = tt; output = sym says.0; error = sym says.1 }
+
+  module _ (v : Verdict) (before after : List ℕ) (room : 4096 ≤ length before) (same : length after ≡ length before)
+      (answer : v ≡ move_answer (check input) (moved input) before) (left : after ≡ move_output (check input) (moved input) before) where
+    pub lies_within : Within v after
+    lies_within = (reported v before after room same answer left).within
+
+    pub goes_out : on_output v after ≡ printed input
+    goes_out = (reported v before after room same answer left).output
+
+    pub is_told : on_error v ≡ complained input
+    is_told = (reported v before after room same answer left).error

@@ -33,6 +33,7 @@ fn main(rt: HostRuntime) {
 
 // Puts the moved table of an input at the start of `out`, for standard output, and answers where it ends; or why there is none, for
 // standard error.
+#[tactic(auto, using(crate::proofs::Inputs::lies_within, crate::proofs::Inputs::goes_out, crate::proofs::Inputs::is_told))]
 fn report(input: &[u8], out: &mut [u8; 4096]) -> Result<u16, Refusal>
     ensures within { Within result out.new }
     ensures output { on_output result out.new ≡ printed input.now }
