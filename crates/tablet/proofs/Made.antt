@@ -10,6 +10,8 @@ use lib.Dec.{eqb, leb}
 use Rattle.rules.specs.Answers.{wrong_word_if, Done}
 use Rattle.rules.specs.Bytes.{is_set}
 use Rattle.rules.specs.Words.{with_pattern}
+use Rattle.rules.specs.declared.Refusal.{Refusal}
+use Rattle.std.specs.Prelude.{Result}
 use Rattle.rules.specs.declared.Body.{Body}
 use Rattle.rules.proofs.Known.{fits, still_passes}
 use Rattle.time.specs.Annotations.{counted, annotation_of}
@@ -45,7 +47,7 @@ module _ (l h : List ℕ) (z : ℕ) where
   abbrev Both : ℕ → Type 0
   Both answer = Decides (is_set 16 answer) now × Decides (is_set 17 answer) still × (is_set 16 answer ≡ true → is_set 17 answer ≡ true)
 
-  both : {j : Judgement} → Judged l h z j → packed_judgement j % 2 ^ 16 ≡ 0 → Both (packed_judgement j)
+  both : {j : Result Judgement Refusal} → Judged l h z j → packed_judgement j % 2 ^ 16 ≡ 0 → Both (packed_judgement j)
   both (refused {why} c) e = absurd (omega (arith, (refusal_number why).0, (refusal_number why).1))
   both (satisfied t1 t2 c y k) e =
       let found : now = record { t1 = t1; t2 = t2; satisfies = y } in

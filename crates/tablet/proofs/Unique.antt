@@ -158,13 +158,13 @@ no_refusal step plan why e = omega (arith, (refusal_number why).0, (refusal_numb
 
 -- so an answer with number 0 and plan 0 is a figure
 pub figure_found : (b : Figure) (k : ℕ) → packed_bound b ≡ packed 0 k 0 → b ≡ Ok (Some k)
-figure_found (Ok (Some j)) k e = ap Ok (Some (omega (arith, e)))
+figure_found (Ok (Some j)) k e = let same : j ≡ k = omega (arith, e) in rw same refl
 figure_found (Ok None) k e = absurd (omega (arith, e))
 figure_found (Err why) k e = absurd (no_refusal k 0 why (sym e))
 
 -- and one of the run is a rest after so many steps; with plan 1 the run is still moving, and the step is its budget
 pub rest_found : (budget : ℕ) (r : Rest) (k : ℕ) → packed_rest budget r ≡ packed 0 k 0 → r ≡ Ok (Some k)
-rest_found budget (Ok (Some j)) k e = ap Ok (Some (omega (arith, e)))
+rest_found budget (Ok (Some j)) k e = let same : j ≡ k = omega (arith, e) in rw same refl
 rest_found budget (Ok None) k e = absurd (omega (arith, e))
 rest_found budget (Err why) k e = absurd (no_refusal k 0 why (sym e))
 

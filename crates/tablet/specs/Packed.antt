@@ -1,5 +1,5 @@
 -- What a host program written in C is answered: one 64-bit number that holds a number, a plan and a step. Assumes nothing.
-use Rattle.std.specs.Prelude.{ℕ, ◌+◌, ◌*◌, ◌%◌, ◌^◌, ◌≡◌, cond, ◌&&◌, List, [], ◌∷◌, get_or, eqb, leb, Ok, Err, Some, None}
+use Rattle.std.specs.Prelude.{ℕ, ◌+◌, ◌*◌, ◌%◌, ◌^◌, ◌≡◌, cond, ◌&&◌, List, [], ◌∷◌, get_or, eqb, leb, Result, Ok, Err, Some, None}
 use Rattle.rules.specs.Answers.{place, Judged, Outcome, Verdict, Rest, Figure}
 use Rattle.rules.specs.Bytes.{is_set}
 use Rattle.rules.specs.Words.{with_pattern}
@@ -49,15 +49,15 @@ pub record Told (rule : ℕ) (t r : List ℕ) (answer : ℕ) : Type 0 where
   pub told : answer ≡ packed_verdict verdict
 
 -- whether a pattern is satisfied: number 0, step 0, and as its plan 1 for satisfied plus 2 for satisfiable, so that 1 is never alone
-abbrev pub packed_judgement : Judgement → ℕ
-packed_judgement (judgement.Satisfied t1 t2) = packed 0 0 (1 + 2)
-packed_judgement judgement.Satisfiable = packed 0 0 2
-packed_judgement judgement.Neither = packed 0 0 0
-packed_judgement (judgement.Refused why) = packed_refusal why
+abbrev pub packed_judgement : Result Judgement Refusal → ℕ
+packed_judgement (Ok (judgement.Satisfied t1 t2)) = packed 0 0 (1 + 2)
+packed_judgement (Ok judgement.Satisfiable) = packed 0 0 2
+packed_judgement (Ok judgement.Neither) = packed 0 0 0
+packed_judgement (Err why) = packed_refusal why
 
 -- an answer about an annotation l, a history h and a minute of asking z: one that is permitted, packed
 pub record PatternTold (l h : List ℕ) (z answer : ℕ) : Type 0 where
-  pub judgement : Judgement
+  pub judgement : Result Judgement Refusal
   pub judged : time.Judged l h z judgement
   pub told : answer ≡ packed_judgement judgement
 

@@ -3,8 +3,8 @@
 // out. Nothing is allocated. Assumes nothing.
 #![tactic(auto)]
 
-ghost use Rattle.std.specs.Prelude.{ℕ, ◌≡◌, cond};
-ghost use Rattle.rules.specs.Words.{with_bits, with_pattern};
+ghost use Rattle.std.specs.Prelude.{ℕ, ◌≡◌, ◌<◌, ◌≤◌, cond, MatchOption, MatchResult};
+ghost use Rattle.rules.specs.Words.{with_bits, with_pattern, satisfiable_bits};
 ghost use Rattle.rules.specs.Answers.{step_answer, step_states, step_causes, run_answer, run_states, run_causes};
 ghost use Rattle.demands.specs.Bound.{RestsWithin, bound_answer};
 ghost use Rattle.versions.specs.Versions.{check_to1, check_to2, in_version1, in_version2, move_answer, move_output};
@@ -30,7 +30,10 @@ pub extern "C" fn asbru_step(
     ensures told { causes.new ≡ step_causes rule table.now states.old words.now
         causes.old }
 {
-    pack_outcome(step::step(rule, table, states, words, causes))
+    told(
+        step::step(rule, table, states, words, causes),
+        |()| pack(0, 0, 0),
+    )
 }
 
 // Steps by a rule under held words until one more step changes nothing, or until the budget is used, with the causes of the last step
@@ -52,9 +55,12 @@ pub extern "C" fn asbru_rest(
     ensures told { causes.new ≡ run_causes rule table.now states.old words.now
         causes.old budget }
 {
-    pack_rest(
+    told(
         step::rest(rule, table, states, words, causes, budget),
-        budget,
+        |rested| match rested {
+            Some(k) => pack(0, k, 0),
+            None => pack(0, budget, 1),
+        },
     )
 }
 
@@ -64,7 +70,10 @@ pub extern "C" fn asbru_bound(table: &[u8], words: &[u8]) -> u64
     ensures answer { result ≡ packed_bound (bound_answer table.now words.now) }
     ensures promise { (k : ℕ) → result ≡ packed 0 k 0 → RestsWithin table.now words.now k }
 {
-    pack_bound(bound::bound(table, words))
+    told(bound::bound(table, words), |figure| match figure {
+        Some(k) => pack(0, k, 0),
+        None => pack(0, 0, 1),
+    })
 }
 
 // Whether a record can come from the rules under a table, by the rule named.
@@ -72,7 +81,10 @@ pub extern "C" fn asbru_bound(table: &[u8], words: &[u8]) -> u64
 pub extern "C" fn asbru_check(rule: u32, table: &[u8], record: &[u8]) -> u64
     ensures { Told rule table.now «record».now result }
 {
-    pack_verdict(record::check(rule, table, record))
+    told(
+        record::check(rule, table, record),
+        |steps| pack(0, steps, 0),
+    )
 }
 
 // Puts a table of version 1, as one of version 2, at the start of the output, or a refusal that changes none of it.
@@ -83,7 +95,10 @@ pub extern "C" fn asbru_to_version_2(table: &[u8], output: &mut [u8]) -> u64
     ensures left { output.new
         ≡ move_output (check_to2 table.now) (in_version2 table.now) output.old }
 {
-    pack_verdict(versions::to_version_2(table, output))
+    told(
+        versions::to_version_2(table, output),
+        |bytes| pack(0, bytes, 0),
+    )
 }
 
 // The same from version 2 to 1.
@@ -94,7 +109,10 @@ pub extern "C" fn asbru_to_version_1(table: &[u8], output: &mut [u8]) -> u64
     ensures left { output.new
         ≡ move_output (check_to1 table.now) (in_version1 table.now) output.old }
 {
-    pack_verdict(versions::to_version_1(table, output))
+    told(
+        versions::to_version_1(table, output),
+        |bytes| pack(0, bytes, 0),
+    )
 }
 
 // Whether a history satisfies a time annotation at the minute of asking, or still can.
@@ -102,7 +120,14 @@ pub extern "C" fn asbru_to_version_1(table: &[u8], output: &mut [u8]) -> u64
 pub extern "C" fn asbru_pattern(annotation: &[u64; 7], samples: &[u64], asked: u64) -> u64
     ensures { PatternTold annotation.now samples.now asked result }
 {
-    pack_judgement(pattern::judge(annotation, samples, asked))
+    told(
+        pattern::judge(annotation, samples, asked),
+        |judgement| match judgement {
+            Judgement::Satisfied { .. } => pack(0, 0, 3),
+            Judgement::Satisfiable => pack(0, 0, 2),
+            Judgement::Neither => pack(0, 0, 0),
+        },
+    )
 }
 
 // Puts the normal form of a time annotation in its place, or a refusal that changes none of it.
@@ -110,7 +135,7 @@ pub extern "C" fn asbru_pattern(annotation: &[u64; 7], samples: &[u64], asked: u
 pub extern "C" fn asbru_normalise(annotation: &mut [u64; 7]) -> u64
     ensures { NormalTold annotation.old annotation.new result }
 {
-    pack_outcome(pattern::normalise(annotation))
+    told(pattern::normalise(annotation), |()| pack(0, 0, 0))
 }
 
 // The word with what was answered of the pattern of a condition; as it was, where the answer is a refusal or there is no such condition.
@@ -121,29 +146,30 @@ pub extern "C" fn asbru_with_pattern(word: u32, condition: u32, answer: u64) -> 
     if answer % 65536 != 0 {
         return word;
     }
-    if 6 < condition {
-        return word;
+    match pattern_of(condition) {
+        Some(pattern) => put(
+            pattern,
+            (answer >> 16) % 2 == 1,
+            (answer >> 17) % 2 == 1,
+            word,
+        ),
+        None => word,
     }
-    put(
-        pattern_of(condition),
-        (answer >> 16) % 2 == 1,
-        (answer >> 17) % 2 == 1,
-        word,
-    )
 }
 
-// The pattern that a number stands for: a condition by its bit, and 6 for if-then-else.
-fn pattern_of(condition: u32) -> Pattern
-    ensures { result ≡ pattern_of condition }
+// The pattern that a number stands for: a condition by its bit, and 6 for if-then-else; no higher number does for one.
+fn pattern_of(condition: u32) -> Option<Pattern>
+    ensures { MatchOption result (6 < condition) (λ p. (condition ≤ 6) × (p ≡ pattern_of condition)) }
 {
     match condition {
-        0 => Pattern::Of(Condition::Filter),
-        1 => Pattern::Of(Condition::Setup),
-        2 => Pattern::Of(Condition::Suspend),
-        3 => Pattern::Of(Condition::Reactivate),
-        4 => Pattern::Of(Condition::Abort),
-        5 => Pattern::Of(Condition::Complete),
-        _ => Pattern::If,
+        0 => Some(Pattern::Of(Condition::Filter)),
+        1 => Some(Pattern::Of(Condition::Setup)),
+        2 => Some(Pattern::Of(Condition::Suspend)),
+        3 => Some(Pattern::Of(Condition::Reactivate)),
+        4 => Some(Pattern::Of(Condition::Abort)),
+        5 => Some(Pattern::Of(Condition::Complete)),
+        6 => Some(Pattern::If),
+        _ => None,
     }
 }
 
@@ -152,15 +178,25 @@ fn put(pattern: Pattern, satisfied: bool, satisfiable: bool, word: u32) -> u32
     ensures { result ≡ with_pattern pattern satisfied satisfiable word }
 {
     match pattern {
-        Pattern::Of(c) => match c {
-            Condition::Filter => with_bits(1, 64, satisfied, satisfiable, word),
-            Condition::Setup => with_bits(2, 128, satisfied, satisfiable, word),
-            Condition::Suspend => with_bits(4, 0, satisfied, satisfiable, word),
-            Condition::Reactivate => with_bits(8, 0, satisfied, satisfiable, word),
-            Condition::Abort => with_bits(16, 0, satisfied, satisfiable, word),
-            Condition::Complete => with_bits(32, 0, satisfied, satisfiable, word),
-        },
-        Pattern::If => with_bits(1_048_576, 2_097_152, satisfied, satisfiable, word),
+        Pattern::Of(c) => with_bits(
+            1 << c.bit(),
+            satisfiable_bits(c),
+            satisfied,
+            satisfiable,
+            word,
+        ),
+        Pattern::If => with_bits(1 << 20, 1 << 21, satisfied, satisfiable, word),
+    }
+}
+
+// The bit that says of a condition that it still can be.
+fn satisfiable_bits(condition: Condition) -> u32
+    ensures { result ≡ satisfiable_bits condition }
+{
+    match condition {
+        Condition::Filter => 1 << 6,
+        Condition::Setup => 1 << 7,
+        _ => 0,
     }
 }
 
@@ -178,71 +214,23 @@ fn bits_if(b: bool, bits: u32) -> u32
     if b { bits } else { 0 }
 }
 
-// What the step answers.
-fn pack_outcome(outcome: Result<(), Refusal>) -> u64
-    ensures { result ≡ packed_outcome outcome }
+// An answer in one number: as `of_ok` packs it, or a refusal by its number and its place.
+fn told<T, F: FnOnce(T) -> u64>(answer: Result<T, Refusal>, of_ok: F) -> u64
+    requires { F.IsAlwaysCallable of_ok }
+    ensures { MatchResult answer (λ x. F.post of_ok x result) (λ why. result ≡ packed_refusal why) }
 {
-    match outcome {
-        Ok(()) => pack(0, 0, 0),
-        Err(why) => pack_refusal(why),
+    match answer {
+        Ok(x) => of_ok(x),
+        Err(why) => {
+            let place = places::place(why);
+            pack(place.number, place.step, place.plan)
+        }
     }
-}
-
-// What the run answers under a budget.
-fn pack_rest(rest: Result<Option<u16>, Refusal>, budget: u16) -> u64
-    ensures { result ≡ packed_rest budget rest }
-{
-    match rest {
-        Ok(Some(k)) => pack(0, k, 0),
-        Ok(None) => pack(0, budget, 1),
-        Err(why) => pack_refusal(why),
-    }
-}
-
-// What a question for the most steps to rest answers.
-fn pack_bound(bound: Result<Option<u16>, Refusal>) -> u64
-    ensures { result ≡ packed_bound bound }
-{
-    match bound {
-        Ok(Some(k)) => pack(0, k, 0),
-        Ok(None) => pack(0, 0, 1),
-        Err(why) => pack_refusal(why),
-    }
-}
-
-// What the checker, and the move of a table, answers.
-fn pack_verdict(verdict: Result<u16, Refusal>) -> u64
-    ensures { result ≡ packed_verdict verdict }
-{
-    match verdict {
-        Ok(steps) => pack(0, steps, 0),
-        Err(why) => pack_refusal(why),
-    }
-}
-
-// What a question about a pattern is answered.
-fn pack_judgement(judgement: Judgement) -> u64
-    ensures { result ≡ packed_judgement judgement }
-{
-    match judgement {
-        Judgement::Satisfied { first: _, last: _ } => pack(0, 0, 3),
-        Judgement::Satisfiable => pack(0, 0, 2),
-        Judgement::Neither => pack(0, 0, 0),
-        Judgement::Refused(why) => pack_refusal(why),
-    }
-}
-
-// The number of a refusal, and its place.
-fn pack_refusal(why: Refusal) -> u64
-    ensures { result ≡ packed_refusal why }
-{
-    let place = places::place(why);
-    pack(place.number, place.step, place.plan)
 }
 
 // A number, a step and a plan in one.
 fn pack(number: u8, step: u16, plan: u16) -> u64
     ensures { result ≡ packed number step plan }
 {
-    number as u64 + plan as u64 * 65536 + step as u64 * 4294967296
+    u64::from(number) + u64::from(plan) * 65536 + u64::from(step) * 4294967296
 }
