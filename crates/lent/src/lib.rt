@@ -99,6 +99,7 @@ fn lowest_bad_state(table: &[u8], n: usize, states: &[u8]) -> Option<usize>
     requires { Planned table.now n states.now }
     ensures { Lowest (bad_state table.now states.now) n result }
 {
+    // two arrays of flags and no array of pairs: an Inactive plan marks one alone, and each is read and proved by itself
     let mut alone = [false; 256];
     let mut shut = [false; 256];
     if PlanState::REJECTED < states[0] {

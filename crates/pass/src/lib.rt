@@ -47,7 +47,7 @@ pub fn take_picks(words: &[u8], n: usize, picks: &mut [u8])
     }
 }
 
-// Tells why each plan went from its old state to its new one.
+// Tells why each plan went from its old state to its new one. It asks for no `Scene`: before the first step of a run there is none.
 pub fn tell_causes(table: &[u8], old: &[u8], words: &[u8], new: &[u8], causes: &mut [u8])
     requires { (p : ℕ) → p < length causes.old → CauseFacts table.now old.now words.now new.now p }
     ensures { causes.new ≡ causes_told table.now old.now words.now new.now

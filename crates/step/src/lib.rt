@@ -136,7 +136,8 @@ fn step_in<const PLANS: usize, const NAMES: usize, const SETS: usize>(
     Ok(())
 }
 
-// One step by a rule over states that have passed the checks.
+// One step by a rule over states that have passed the checks. It is handed a call and work space one by one: a struct of them would borrow
+// five slices for writing, and every clause would have to say of each what it is before and after.
 fn step_over(
     rule: u32,
     table: &[u8],
