@@ -11,19 +11,25 @@
 //   down TABLE OUTPUT                     moves a table to version 1, likewise
 // with bytes in hexadecimal (see `bytes_of`) and numbers in decimal. A line that begins with `#` is printed as it is,
 // and an empty one as well.
-// Assumes what std does of the system's read and write, and that the input is at most 262,144 bytes.
+// Assumes what crate `text` does of the system's read and write, and that the input is at most 262,144 bytes.
 #![tactic(auto)]
 
-ghost use Rattle.std.specs.Prelude.{◌≡◌, ◌≤◌, ◌<◌, length};
-ghost use Rattle.io.specs.Counts.{IsPrefixLen};
+ghost use Rattle.std.specs.Prelude.{◌≡◌, ◌<◌, length};
 
-use rules::{Refusal};
-use std::io::{Print, Read};
+use arrayvec::ArrayVec;
+use rules::Refusal;
+use std::fmt;
+use std::io::Print;
+
+// Bytes that are lent to a call. No table, states, words or causes of a trial take more.
+type Bytes = ArrayVec<u8, 4096>;
 
 fn main(rt: HostRuntime) {
     let mut input = input_buffer();
-    let n = read_full(&mut rt.stdin(), &mut input);
-    run_lines(&rt, &input[..n]);
+    let n = text::read_input(&mut rt.stdin(), &mut input).unwrap_or(0);
+    for line in input[..n].split_inclusive(|&b| b == b'\n') {
+        run_line(&rt, line.strip_suffix(b"\n").unwrap_or(line));
+    }
 }
 
 // Room for all trials.
@@ -33,94 +39,36 @@ fn input_buffer() -> [u8; 262144]
     [0; 262144]
 }
 
-// Reads until the buffer is full, the input ends or a read fails, and answers how many bytes there are.
-fn read_full<R: Read>(reader: &mut R, buffer: &mut [u8]) -> usize
-    ensures { IsPrefixLen result buffer.new }
-{
-    let mut n = 0;
-    while n < buffer.len() {
-        match reader.read(&mut buffer[n..]) {
-            Ok(0) | Err(_) => return n,
-            Ok(k) => n += k,
-        }
-    }
-    n
-}
-
-// Each line in turn.
-fn run_lines<P: Print>(rt: &P, text: &[u8]) {
-    let mut at = 0;
-    while at < text.len() {
-        let end = stop_of(text, at, b'\n');
-        run_line(rt, &text[at..end]);
-        at = end + 1;
-    }
-}
-
-// The place of the next such byte from `from` on, or the end.
-fn stop_of(text: &[u8], from: usize, stop: u8) -> usize
-    requires { from ≤ length text.now }
-    ensures { (from ≤ result) × (result ≤ length text.now) }
-{
-    let mut i = from;
-    while i < text.len() {
-        if text[i] == stop {
-            return i;
-        }
-        i += 1;
-    }
-    i
-}
-
 fn run_line<P: Print>(rt: &P, line: &[u8]) {
-    if line.len() == 0 {
-        end_line(rt);
-        return;
-    }
-    match line[0] {
-        b'#' => {
-            print(rt, line);
+    match line.first() {
+        None => end_line(rt),
+        Some(b'#') => {
+            let _ = rt.write_all(line);
             end_line(rt);
         }
-        b't' => run_table(rt, line),
-        b's' => run_sub_tree(rt, line),
-        b'm' => run_call(rt, line, false, false),
-        b'r' => run_call(rt, line, true, false),
-        b'w' => run_call(rt, line, false, true),
-        b'l' => run_call(rt, line, true, true),
-        b'b' => run_bound(rt, line),
-        b'j' => run_judge(rt, line),
-        b'u' => run_move(rt, line, true),
-        b'd' => run_move(rt, line, false),
-        _ => {
-            print(rt, b"no such trial");
-            end_line(rt);
+        Some(b't') => run_table(rt, line),
+        Some(b's') => run_sub_tree(rt, line),
+        Some(b'm') => print_left(rt, run_step(rt, line, 3)),
+        Some(b'r') => print_left(rt, run_rest(rt, line, 3, 5)),
+        Some(b'w') => print_both(rt, run_step(rt, line, 5)),
+        Some(b'l') => print_both(rt, run_rest(rt, line, 5, 6)),
+        Some(b'b') => run_bound(rt, line),
+        Some(b'j') => run_judge(rt, line),
+        Some(b'u') => run_move(rt, line, versions::to_version_2),
+        Some(b'd') => run_move(rt, line, versions::to_version_1),
+        Some(_) => {
+            let _ = println!(rt; "no such trial");
         }
     }
-}
-
-fn print<P: Print>(rt: &P, text: &[u8]) {
-    let _ = rt.write_all(text);
 }
 
 fn end_line<P: Print>(rt: &P) {
-    print(rt, b"\n");
+    let _ = println!(rt; "");
 }
 
 // Field k of a line, counted from 0, or nothing.
 fn field(line: &[u8], k: usize) -> &[u8] {
-    let mut at = 0;
-    let mut left = k;
-    while left > 0 {
-        let end = stop_of(line, at, b' ');
-        if end == line.len() {
-            return &line[0..0];
-        }
-        at = end + 1;
-        left -= 1;
-    }
-    let end = stop_of(line, at, b' ');
-    &line[at..end]
+    line.split(|&b| b == b' ').nth(k).unwrap_or(&[])
 }
 
 // The value of a hexadecimal digit, 0 for any other byte.
@@ -135,283 +83,161 @@ fn digit(b: u8) -> u8
     }
 }
 
-// The bytes of a hexadecimal text, as far as there is room, and how many there are. Groups are parted by dots, and one that ends in
-// `*` and a number stands so many times.
-fn bytes_of(text: &[u8], out: &mut [u8]) -> usize
-    ensures { IsPrefixLen result out.new }
-{
-    let mut n = 0;
-    let mut at = 0;
-    while at < text.len() {
-        let end = stop_of(text, at, b'.');
-        n = add_group(&text[at..end], out, n);
-        at = end + 1;
+// The bytes of a hexadecimal text, as far as there is room. Groups are parted by dots, and one that ends in `*` and a number stands so many
+// times.
+fn bytes_of<const N: usize>(text: &[u8]) -> ArrayVec<u8, N> {
+    let mut bytes = ArrayVec::new();
+    for group in text.split(|&b| b == b'.') {
+        let mut parts = group.splitn(2, |&b| b == b'*');
+        let digits = parts.next().unwrap_or(&[]);
+        let times = parts.next().map_or(1, |s| number_of(s));
+        for _ in 0..times {
+            add_bytes(digits, &mut bytes);
+        }
     }
-    n
+    bytes
 }
 
-// Puts a group at place n, and answers the place behind it.
-fn add_group(group: &[u8], out: &mut [u8], n: usize) -> usize
-    requires { n ≤ length out.old }
-    ensures { result ≤ length out.new }
-{
-    let star = stop_of(group, 0, b'*');
-    let times = times_of(group, star);
-    let mut k = n;
-    let mut i = 0;
-    while i < times {
-        k = add_bytes(&group[0..star], out, k);
-        i += 1;
+fn add_bytes<const N: usize>(text: &[u8], bytes: &mut ArrayVec<u8, N>) {
+    for pair in text.chunks_exact(2) {
+        let _ = bytes.try_push(digit(pair[0]) * 16 + digit(pair[1]));
     }
-    k
 }
 
-fn times_of(group: &[u8], star: usize) -> usize
-    requires { star ≤ length group.now }
-{
-    if star == group.len() {
-        return 1;
-    }
-    number_of(&group[star..])
-}
-
-// Puts bytes at place n, as far as there is room, and answers the place behind them.
-fn add_bytes(text: &[u8], out: &mut [u8], n: usize) -> usize
-    requires { n ≤ length out.old }
-    ensures { result ≤ length out.new }
-{
-    let count = least(text.len() / 2, out.len() - n);
-    let mut i = 0;
-    while i < count {
-        out[n + i] = digit(text[2 * i]) * 16 + digit(text[2 * i + 1]);
-        i += 1;
-    }
-    n + count
-}
-
-fn least(a: usize, b: usize) -> usize
-    ensures { (result ≤ a) × (result ≤ b) }
-{
-    if a < b { a } else { b }
-}
-
-// The number that a decimal text says, at most 32 bits of it; a byte that is no digit counts as 0.
-fn number_of(text: &[u8]) -> usize
-    ensures { result < 4294967296 }
-{
-    let mut n: usize = 0;
-    let mut i = 0;
-    while i < text.len() {
-        n = (n * 10 + digit(text[i]) as usize) % 4294967296;
-        i += 1;
-    }
-    n
+// The number that a decimal text says, the last 32 bits of it; a byte that is no digit counts as 0.
+fn number_of(text: &[u8]) -> u32 {
+    text.iter().fold(
+        0,
+        |n, &b| n.wrapping_mul(10).wrapping_add(u32::from(digit(b))),
+    )
 }
 
 fn run_table<P: Print>(rt: &P, line: &[u8]) {
-    let mut space = io::buffer();
-    let n = bytes_of(field(line, 1), &mut space);
-    print_verdict(rt, table::check_table(&space[..n]));
-}
-
-fn run_sub_tree<P: Print>(rt: &P, line: &[u8]) {
-    let mut space = io::buffer();
-    let n = bytes_of(field(line, 1), &mut space);
-    let mut states = io::buffer();
-    let m = bytes_of(field(line, 2), &mut states);
-    print_bytes(
-        rt,
-        table::sub_tree(&space[..n], &states[..m], number_of(field(line, 3))),
-    );
+    let table: Bytes = bytes_of(field(line, 1));
+    print_accepted(rt, table::check_table(&table));
     end_line(rt);
 }
 
-// Lends a table, states, words and room for causes to the step, or to the run to rest. Where the line does not tell what stands in that
-// room, there is as much as the states take, and it is not shown.
-fn run_call<P: Print>(rt: &P, line: &[u8], rests: bool, told: bool) {
-    let mut space = io::buffer();
-    let n = bytes_of(field(line, 2), &mut space);
-    let mut states = io::buffer();
-    let m = bytes_of(field(line, 3), &mut states);
-    let mut words = io::buffer();
-    let k = bytes_of(field(line, 4), &mut words);
-    let mut causes = io::buffer();
-    let j = bytes_of(field(line, if told { 5 } else { 3 }), &mut causes);
-    let budget = number_of(field(line, if told { 6 } else { 5 })) % 65536;
-    call(
-        rt,
-        rule_of(line),
-        &space[..n],
-        &mut states[..m],
-        &words[..k],
-        &mut causes[..j],
-        budget as u16,
-        rests,
-        told,
-    );
+fn run_sub_tree<P: Print>(rt: &P, line: &[u8]) {
+    let table: Bytes = bytes_of(field(line, 1));
+    let states: Bytes = bytes_of(field(line, 2));
+    let plan = number_of(field(line, 3)) as usize;
+    let _ = println!(rt; "{}", Hex(table::sub_tree(&table, &states, plan)));
 }
 
 // The rule number that a line names first.
 fn rule_of(line: &[u8]) -> u32 {
-    number_of(field(line, 1)) as u32
+    number_of(field(line, 1))
 }
 
-fn call<P: Print>(
-    rt: &P,
-    rule: u32,
-    table: &[u8],
-    states: &mut [u8],
-    words: &[u8],
-    causes: &mut [u8],
-    budget: u16,
-    rests: bool,
-    told: bool,
-) {
-    if rests {
-        print_rest(rt, step::rest(rule, table, states, words, causes, budget));
-        print_lent(rt, states, causes, told);
-        return;
-    }
-    print_outcome(rt, step::step(rule, table, states, words, causes));
-    print_lent(rt, states, causes, told);
+// Lends a table, states, words and room for causes, which the field of this number tells, to the step, and answers the states and the causes
+// that it leaves.
+fn run_step<P: Print>(rt: &P, line: &[u8], told: usize) -> (Bytes, Bytes) {
+    let table: Bytes = bytes_of(field(line, 2));
+    let mut states: Bytes = bytes_of(field(line, 3));
+    let words: Bytes = bytes_of(field(line, 4));
+    let mut causes: Bytes = bytes_of(field(line, told));
+    let _ = match step::step(rule_of(line), &table, &mut states, &words, &mut causes) {
+        Ok(()) => print!(rt; "done"),
+        Err(why) => print!(rt; "{}", Refused(why)),
+    };
+    (states, causes)
 }
 
-// What a call leaves.
-fn print_lent<P: Print>(rt: &P, states: &[u8], causes: &[u8], told: bool) {
-    print_shown(rt, states);
-    if told {
-        print_shown(rt, causes);
-    }
-    end_line(rt);
+// The same to the run to rest, under the budget that a field tells.
+fn run_rest<P: Print>(rt: &P, line: &[u8], told: usize, budget: usize) -> (Bytes, Bytes) {
+    let table: Bytes = bytes_of(field(line, 2));
+    let mut states: Bytes = bytes_of(field(line, 3));
+    let words: Bytes = bytes_of(field(line, 4));
+    let mut causes: Bytes = bytes_of(field(line, told));
+    let budget = (number_of(field(line, budget)) % 65536) as u16;
+    let _ = match step::rest(
+        rule_of(line),
+        &table,
+        &mut states,
+        &words,
+        &mut causes,
+        budget,
+    ) {
+        Ok(Some(k)) => print!(rt; "rested {k}"),
+        Ok(None) => print!(rt; "moving"),
+        Err(why) => print!(rt; "{}", Refused(why)),
+    };
+    (states, causes)
+}
+
+// The states that a call leaves. Where the line does not tell what stands in the room for causes, there is as much as the states take, and
+// it is not shown.
+fn print_left<P: Print>(rt: &P, left: (Bytes, Bytes)) {
+    let (states, _) = left;
+    let _ = println!(rt; " {}", Hex(&states));
+}
+
+// The states and the causes.
+fn print_both<P: Print>(rt: &P, left: (Bytes, Bytes)) {
+    let (states, causes) = left;
+    let _ = println!(rt; " {} {}", Hex(&states), Hex(&causes));
 }
 
 fn run_bound<P: Print>(rt: &P, line: &[u8]) {
-    let mut space = io::buffer();
-    let n = bytes_of(field(line, 1), &mut space);
-    let mut words = io::buffer();
-    let k = bytes_of(field(line, 2), &mut words);
-    print_bound(rt, bound::bound(&space[..n], &words[..k]));
-    end_line(rt);
+    let table: Bytes = bytes_of(field(line, 1));
+    let words: Bytes = bytes_of(field(line, 2));
+    let _ = match bound::bound(&table, &words) {
+        Ok(Some(k)) => println!(rt; "within {k}"),
+        Ok(None) => println!(rt; "unknown"),
+        Err(why) => println!(rt; "{}", Refused(why)),
+    };
 }
 
 fn run_judge<P: Print>(rt: &P, line: &[u8]) {
-    let mut space = io::buffer();
-    let n = bytes_of(field(line, 2), &mut space);
-    let mut steps = record_buffer();
-    let m = bytes_of(field(line, 3), &mut steps);
-    print_verdict(rt, record::check(rule_of(line), &space[..n], &steps[..m]));
+    let table: Bytes = bytes_of(field(line, 2));
+    // Room for the header and one step too many of a record of one plan.
+    let steps: ArrayVec<u8, 327688> = bytes_of(field(line, 3));
+    print_accepted(rt, record::check(rule_of(line), &table, &steps));
+    end_line(rt);
 }
 
-// Room for the header and one step too many of a record of one plan.
-fn record_buffer() -> [u8; 327688]
-    ensures { 327688 ≡ length result }
+// Lends a table and an output to a move of tables.
+fn run_move<P: Print, F: FnOnce(&[u8], &mut [u8]) -> Result<u16, Refusal>>(
+    rt: &P,
+    line: &[u8],
+    to_version: F,
+)
+    requires { F.IsAlwaysCallable to_version }
 {
-    [0; 327688]
+    let table: Bytes = bytes_of(field(line, 1));
+    let mut output: Bytes = bytes_of(field(line, 2));
+    print_accepted(rt, to_version(&table, &mut output));
+    let _ = println!(rt; " {}", Hex(&output));
 }
 
-// Lends a table and an output to the move of a table, to version 2 or to version 1.
-fn run_move<P: Print>(rt: &P, line: &[u8], up: bool) {
-    let mut space = io::buffer();
-    let n = bytes_of(field(line, 1), &mut space);
-    let mut output = io::buffer();
-    let m = bytes_of(field(line, 2), &mut output);
-    move_table(rt, &space[..n], &mut output[..m], up);
+fn print_accepted<P: Print>(rt: &P, verdict: Result<u16, Refusal>) {
+    let _ = match verdict {
+        Ok(n) => print!(rt; "accepted {n}"),
+        Err(why) => print!(rt; "{}", Refused(why)),
+    };
 }
 
-fn move_table<P: Print>(rt: &P, table: &[u8], output: &mut [u8], up: bool) {
-    if up {
-        print_answer(rt, versions::to_version_2(table, output));
-        print_left(rt, output);
-        return;
-    }
-    print_answer(rt, versions::to_version_1(table, output));
-    print_left(rt, output);
-}
+// A refusal: its number, and its place.
+#[derive(Clone, Copy)]
+struct Refused(Refusal);
 
-fn print_left<P: Print>(rt: &P, lent: &[u8]) {
-    print_shown(rt, lent);
-    end_line(rt);
-}
-
-fn print_shown<P: Print>(rt: &P, lent: &[u8]) {
-    print(rt, b" ");
-    print_bytes(rt, lent);
-}
-
-fn print_bytes<P: Print>(rt: &P, s: &[u8]) {
-    let mut i = 0;
-    while i < s.len() {
-        print_hex(rt, wide(s[i]));
-        i += 1;
+impl fmt::Display for Refused {
+    fn fmt<W: fmt::Write>(&self, f: &mut fmt::Formatter<W>) -> fmt::Result {
+        let place = places::place(self.0);
+        write!(f, "refused {} {} {}", place.number, place.step, place.plan)
     }
 }
 
-// Two digits.
-fn print_hex<P: Print>(rt: &P, x: u64) {
-    let mut digits = [0u8; 16];
-    let k = io::hex(x, 2, &mut digits);
-    print(rt, &digits[..k]);
-}
+// Bytes, two digits each.
+#[derive(Clone, Copy)]
+struct Hex<'a>(&'a [u8]);
 
-fn wide(x: u8) -> u64 {
-    x as u64
-}
-
-fn print_number<P: Print>(rt: &P, x: u64) {
-    print(rt, b" ");
-    let mut digits = [0u8; 20];
-    let k = io::decimal(x, &mut digits);
-    print(rt, &digits[..k]);
-}
-
-fn print_verdict<P: Print>(rt: &P, v: Result<u16, Refusal>) {
-    print_answer(rt, v);
-    end_line(rt);
-}
-
-fn print_answer<P: Print>(rt: &P, v: Result<u16, Refusal>) {
-    match v {
-        Ok(n) => {
-            print(rt, b"accepted");
-            print_number(rt, n as u64);
+impl fmt::Display for Hex<'_> {
+    fn fmt<W: fmt::Write>(&self, f: &mut fmt::Formatter<W>) -> fmt::Result {
+        for b in self.0 {
+            write!(f, "{b:02x}")?;
         }
-        Err(why) => print_refusal(rt, why),
+        Ok(())
     }
-}
-
-fn print_outcome<P: Print>(rt: &P, o: Result<(), Refusal>) {
-    match o {
-        Ok(()) => print(rt, b"done"),
-        Err(why) => print_refusal(rt, why),
-    }
-}
-
-fn print_rest<P: Print>(rt: &P, r: Result<Option<u16>, Refusal>) {
-    match r {
-        Ok(Some(k)) => {
-            print(rt, b"rested");
-            print_number(rt, k as u64);
-        }
-        Ok(None) => print(rt, b"moving"),
-        Err(why) => print_refusal(rt, why),
-    }
-}
-
-fn print_bound<P: Print>(rt: &P, b: Result<Option<u16>, Refusal>) {
-    match b {
-        Ok(Some(k)) => {
-            print(rt, b"within");
-            print_number(rt, k as u64);
-        }
-        Ok(None) => print(rt, b"unknown"),
-        Err(why) => print_refusal(rt, why),
-    }
-}
-
-fn print_refusal<P: Print>(rt: &P, why: Refusal) {
-    let place = places::place(why);
-    print(rt, b"refused");
-    print_number(rt, place.number as u64);
-    print_number(rt, place.step as u64);
-    print_number(rt, place.plan as u64);
 }
