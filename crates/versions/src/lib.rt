@@ -25,7 +25,8 @@ pub fn to_version_2(table: &[u8], output: &mut [u8]) -> Result<u16, Refusal>
         ≡ move_output (check_to2 table.now) (in_version2 table.now) output.old }
 {
     check_from(1, table)?;
-    move_to_2(table, plan_count(table), output)
+    let n = plan_count(table);
+    Plans { table, n }.move_to_2(output)
 }
 
 // The same from version 2 to 1.
@@ -35,7 +36,8 @@ pub fn to_version_1(table: &[u8], output: &mut [u8]) -> Result<u16, Refusal>
         ≡ move_output (check_to1 table.now) (in_version1 table.now) output.old }
 {
     check_to_1(table)?;
-    move_to_1(table, plan_count(table), output)
+    let n = plan_count(table);
+    Plans { table, n }.move_to_1(output)
 }
 
 // Checks 1 and 2, and 3 of a table that is not of the version moved from.
@@ -102,54 +104,111 @@ fn room_check(size: usize, output: &[u8]) -> Result<(), Refusal>
     Ok(())
 }
 
-// Check 24, and the table of n plans in version 2.
-fn move_to_2(table: &[u8], n: usize, output: &mut [u8]) -> Result<u16, Refusal>
-    requires { HasPlans table.now n }
-    ensures answer { result ≡ move_answer Done (in_version2 table.now) output.old }
-    ensures left { output.new ≡ move_output Done (in_version2 table.now) output.old }
-{
-    let nodes = count_nodes(table, n);
-    room_check(10 + 8 * n + 4 * nodes, output)?;
-    Ok(write_2(table, n, nodes, output) as u16)
+// The n plans of a table, which lie in it.
+#[derive(Clone, Copy)]
+struct Plans<'a> {
+    table: &'a [u8],
+    n: usize,
+    ghost there: { HasPlans table.now n },
 }
 
-// The table of n plans in version 2, with so many nodes.
-fn write_2(table: &[u8], n: usize, nodes: usize, output: &mut [u8]) -> usize
-    requires table { HasPlans table.now n × (nodes ≡ nodes_before table.now n) }
-    requires room { 10 + 8 * n + 4 * nodes ≤ length output.old }
-    ensures { Appended output.old 0 (in_version2 table.now) output.new result }
-{
-    put_header(2, table, output);
-    let at = put_numbered(table, n, output);
-    let at = put_count(nodes, output, at);
-    put_nodes(table, n, output, at)
-}
+impl<'a> Plans<'a> {
+    // Check 24, and the table in version 2.
+    fn move_to_2(&self, output: &mut [u8]) -> Result<u16, Refusal>
+        ensures answer { result ≡ move_answer Done (in_version2 self.now.table.now) output.old }
+        ensures left { output.new ≡ move_output Done (in_version2 self.now.table.now) output.old }
+    {
+        let nodes = self.count_nodes();
+        room_check(10 + 8 * self.n + 4 * nodes, output)?;
+        Ok(self.write_2(nodes, output) as u16)
+    }
 
-// Check 24, and the table of n plans in version 1.
-fn move_to_1(table: &[u8], n: usize, output: &mut [u8]) -> Result<u16, Refusal>
-    requires { HasPlans table.now n }
-    ensures answer { result ≡ move_answer Done (in_version1 table.now) output.old }
-    ensures left { output.new ≡ move_output Done (in_version1 table.now) output.old }
-{
-    room_check(8 + 8 * n, output)?;
-    Ok(write_1(table, n, output) as u16)
-}
+    // The table in version 2, with so many nodes.
+    fn write_2(&self, nodes: usize, output: &mut [u8]) -> usize
+        requires nodes { nodes ≡ nodes_before self.now.table.now self.now.n }
+        requires room { 10 + 8 * self.now.n + 4 * nodes ≤ length output.old }
+        ensures { Appended output.old 0 (in_version2 self.now.table.now) output.new result }
+    {
+        put_header(2, self.table, output);
+        let at = self.put_numbered(output);
+        let at = put_count(nodes, output, at);
+        self.put_nodes(output, at)
+    }
 
-// The table of n plans in version 1.
-fn write_1(table: &[u8], n: usize, output: &mut [u8]) -> usize
-    requires { HasPlans table.now n × (8 + 8 * n ≤ length output.old) }
-    ensures { Appended output.old 0 (in_version1 table.now) output.new result }
-{
-    put_header(1, table, output);
-    put_waiting(table, n, output)
-}
+    // Check 24, and the table in version 1. Sizes and writers differ from version 2's: one function of both would take a closure for each.
+    fn move_to_1(&self, output: &mut [u8]) -> Result<u16, Refusal>
+        ensures answer { result ≡ move_answer Done (in_version1 self.now.table.now) output.old }
+        ensures left { output.new ≡ move_output Done (in_version1 self.now.table.now) output.old }
+    {
+        room_check(8 + 8 * self.n, output)?;
+        Ok(self.write_1(output) as u16)
+    }
 
-// How many of the first n plans have children, and so a node.
-fn count_nodes(table: &[u8], n: usize) -> usize
-    requires { HasPlans table.now n }
-    ensures { result ≡ nodes_before table.now n }
-{
-    (0..n).filter(|&p| !is_leaf_at(table, p)).count()
+    // The table in version 1.
+    fn write_1(&self, output: &mut [u8]) -> usize
+        requires { 8 + 8 * self.now.n ≤ length output.old }
+        ensures { Appended output.old 0 (in_version1 self.now.table.now) output.new result }
+    {
+        put_header(1, self.table, output);
+        self.put_waiting(output)
+    }
+
+    // How many plans have children, and so a node.
+    fn count_nodes(&self) -> usize
+        ensures { result ≡ nodes_before self.now.table.now self.now.n }
+    {
+        (0..self.n).filter(|&p| !is_leaf_at(self.table, p)).count()
+    }
+
+    // Puts the plans behind the header, those with children with the numbers of their nodes. It is not one function with `put_waiting`, by
+    // a closure that gives byte 7: here the closure would keep the count, and the contract would have to follow its calls one by one.
+    fn put_numbered(&self, output: &mut [u8]) -> usize
+        requires { 8 + 8 * self.now.n ≤ length output.old }
+        ensures { Appended output.old 8 (plans_as self.now.table.now (nodes_before self.now.table.now) self.now.n)
+            output.new result }
+    {
+        let mut nodes = 0;
+        for p in 0..self.n {
+            put_plan(self.table, p, nodes as u8, output);
+            nodes += usize::from(!is_leaf_at(self.table, p));
+        }
+        8 + 8 * self.n
+    }
+
+    // Puts the plans behind the header, those with children with the m of their nodes.
+    fn put_waiting(&self, output: &mut [u8]) -> usize
+        requires { 8 + 8 * self.now.n ≤ length output.old }
+        ensures { Appended output.old 8 (plans_as self.now.table.now (number_waited self.now.table.now) self.now.n)
+            output.new result }
+    {
+        for p in 0..self.n {
+            put_plan(self.table, p, self.number_waited(p), output);
+        }
+        8 + 8 * self.n
+    }
+
+    // The a of the node with which plan p begins. A leaf has none: its byte 7 is 0, and what is read then is not put.
+    fn number_waited(&self, p: usize) -> u8
+        requires { p < self.now.n }
+        ensures { result ≡ number_waited self.now.table.now p }
+    {
+        byte_at(
+            self.table,
+            11 + 8 * self.n + 4 * usize::from(wait_at(self.table, p)),
+        )
+    }
+
+    // Puts the nodes of the plans there, in plan order.
+    fn put_nodes(&self, output: &mut [u8], at: usize) -> usize
+        requires { at + 4 * nodes_before self.now.table.now self.now.n ≤ length output.old }
+        ensures { Appended output.old at (nodes_as self.now.table.now self.now.n) output.new result }
+    {
+        let mut end = at;
+        for p in 0..self.n {
+            end = put_node(self.table, p, output, end);
+        }
+        end
+    }
 }
 
 // Puts the header, with another version, at the start of the output.
@@ -183,59 +242,12 @@ fn wait_as(table: &[u8], p: usize, wait: u8) -> u8
     }
 }
 
-// Puts the n plans behind the header, those with children with the numbers of their nodes. It is not one function with `put_waiting`, by a
-// closure that gives byte 7: here the closure would keep the count, and the contract would have to follow its calls one by one.
-fn put_numbered(table: &[u8], n: usize, output: &mut [u8]) -> usize
-    requires { HasPlans table.now n × (8 + 8 * n ≤ length output.old) }
-    ensures { Appended output.old 8 (plans_as table.now (nodes_before table.now) n)
-        output.new result }
-{
-    let mut nodes = 0;
-    for p in 0..n {
-        put_plan(table, p, nodes as u8, output);
-        nodes += usize::from(!is_leaf_at(table, p));
-    }
-    8 + 8 * n
-}
-
-// Puts the n plans behind the header, those with children with the m of their nodes.
-fn put_waiting(table: &[u8], n: usize, output: &mut [u8]) -> usize
-    requires { HasPlans table.now n × (8 + 8 * n ≤ length output.old) }
-    ensures { Appended output.old 8 (plans_as table.now (number_waited table.now) n)
-        output.new result }
-{
-    for p in 0..n {
-        put_plan(table, p, number_waited(table, n, p), output);
-    }
-    8 + 8 * n
-}
-
-// The a of the node with which plan p begins. A leaf has none: its byte 7 is 0, and what is read then is not put.
-fn number_waited(table: &[u8], n: usize, p: usize) -> u8
-    requires { HasPlans table.now n × (p < n) }
-    ensures { result ≡ number_waited table.now p }
-{
-    byte_at(table, 11 + 8 * n + 4 * usize::from(wait_at(table, p)))
-}
-
 // Puts the number of nodes, in two bytes.
 fn put_count(nodes: usize, output: &mut [u8], at: usize) -> usize
     requires { (nodes < 65536) × (at + 2 ≤ length output.old) }
     ensures { Appended output.old at (nodes % 256 ∷ nodes / 256 ∷ []) output.new result }
 {
     put(&(nodes as u16).to_le_bytes(), output, at)
-}
-
-// Puts the nodes of the n plans there, in plan order.
-fn put_nodes(table: &[u8], n: usize, output: &mut [u8], at: usize) -> usize
-    requires { HasPlans table.now n × (at + 4 * nodes_before table.now n ≤ length output.old) }
-    ensures { Appended output.old at (nodes_as table.now n) output.new result }
-{
-    let mut end = at;
-    for p in 0..n {
-        end = put_node(table, p, output, end);
-    }
-    end
 }
 
 // Puts the node of plan p there, if it has children.

@@ -1,5 +1,5 @@
 -- `to_version_1` meets its contract: by the checks before 24. Assumes nothing.
-use Rattle.std.proofs.Common.{ℕ, sym, subst, arith}
+use Rattle.std.proofs.Common.{sym, subst, arith}
 use Rattle.std.proofs.lemmas.Result.{err_from_is_err_and}
 use Rattle.versions.specs.Room.{HasPlans}
 use Rattle.versions.proofs.Moves.{refused, has_plans, from_second}
@@ -13,10 +13,9 @@ returns-in_err-check_to_1-clause-answer c =
 pub returns-in_err-check_to_1-clause-left : goal.returns-in_err-check_to_1-clause-left
 returns-in_err-check_to_1-clause-left c = (refused _ _ _ _ (sym c.in_err-check_to_1.ensures)).1
 
-pub plan_count-requires : goal.plan_count-requires
-plan_count-requires c = omega (arith, (has_plans _ _ (from_second _ (sym c.in_ok-check_to_1.ensures))).room)
+pub plan_count-n-requires : goal.plan_count-n-requires
+plan_count-n-requires c = omega (arith, (has_plans _ _ (from_second _ (sym c.in_ok-check_to_1.ensures))).room)
 
-pub move_to_1-requires : goal.move_to_1-requires
-move_to_1-requires c =
-    subst (λ (n : ℕ). HasPlans c.args.table.now n) (sym c.plan_count.ensures)
-    (has_plans _ _ (from_second _ (sym c.in_ok-check_to_1.ensures)))
+pub invariant_of-move_to_1 : goal.invariant_of-move_to_1
+invariant_of-move_to_1 c =
+    record { there = subst (HasPlans c.args.table.now) (sym c.plan_count-n.ensures) (has_plans _ _ (from_second _ (sym c.in_ok-check_to_1.ensures))) }
