@@ -17,7 +17,7 @@ use lent::{unused_bits, wrong_word_if};
 use reading::{entry_at, parent_at, word_at};
 use rules::{Body, PlanState, pick_of};
 
-// Step i of a record of n plans: the words part, and behind it the states part.
+// Step i of a record of n plans: the words part, and behind it the states part. No struct of the three: each part is asked for once a step.
 fn step_of(record: &[u8], n: usize, i: usize) -> &[u8]
     requires { Lies «record».now n i }
     ensures { result.now ≡ take (5 * n) (drop (8 + i * (5 * n)) «record».now) }
@@ -77,7 +77,7 @@ pub fn lowest_wrong_word(table: &[u8], unused: &[u32], words: &[u8], n: usize) -
 
 // The picks that explain the states shown, if any do: of each any-order plan the rank of its lowest Ready child that is shown Activated,
 // else of its highest Ready child; 0 where no child is Ready, and off any-order. `kept` has the state in which the child so picked is
-// shown: once that is Activated, the pick stands.
+// shown: once that is Activated, the pick stands. Two arrays and not one of pairs, since a step reads the picks as bytes.
 pub fn find_picks(
     table: &[u8],
     n: usize,

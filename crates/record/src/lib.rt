@@ -48,6 +48,7 @@ fn check_steps<'a>(
     requires sizes { (n ≡ plan_count table.now) × (steps ≡ step_count table.now «record».now) }
     ensures { Judged rule table.now «record».now result }
 {
+    // work space of this function alone, lent in parts that change at different times: no struct
     let idle = [PlanState::INACTIVE; 256];
     let mut sets = [0u64; 2304];
     let mut picks = [0u8; 256];
