@@ -2,15 +2,13 @@
 use Prim.Native.Nat.{ℕ, ◌*◌, ◌-◌, ◌/◌, ◌%◌, ◌≤◌, ◌<◌}
 use native.Mathlib.Omega.{arith}
 use native.Mathlib.Nat.{div-mul-le_self}
-use mathlib.Core.Path.{◌≡◌, refl, ◌∙◌}
-use mathlib.Core.Bool.{Bool, true, false, not, ◌||◌}
-use mathlib.Core.List.{List, [], ◌∷◌}
+use mathlib.Core.Path.{◌≡◌, ◌∙◌}
+use mathlib.Core.Bool.{true, false, not, ◌||◌}
+use mathlib.Core.List.{List}
 use lib.Dec.{eqb, ltb}
-use lib.ListN.{length, take}
-use borrow.Author.Tests.{lt-ltb, le-ltb, ltb-false}
-use Rattle.rules.specs.Lists.{same}
-use Rattle.rules.specs.Bytes.{byte_at}
-use Rattle.rules.specs.Table.{version, plan_count}
+use lib.ListN.{length}
+use borrow.Author.Tests.{ltb-false}
+use Rattle.rules.specs.Table.{plan_count}
 use Rattle.rules.specs.Record.{step_size, step_count}
 use Rattle.rules.specs.Answers.{rule_check, wrong_header, table_check, form_check, record_check, Judged, malformed, Done}
 use Rattle.rules.specs.declared.Refusal.{Refusal}
@@ -20,17 +18,6 @@ use Rattle.rules.proofs.Tree.{or_left, or_right}
 use Rattle.parts.specs.OneStep.{Lies}
 use Rattle.parts.proofs.Parts.{room}
 use Rattle.std.specs.Prelude.{Err}
-
--- check 13, as the code finds it
-pub short_header : (t r : List ℕ) → length r < 8 → true ≡ wrong_header t r
-short_header t r l = rw (lt-ltb (length r) 8 l) refl
-
-pub long_header :
-    (t r : List ℕ) (n v k : ℕ) (marked : Bool) → n ≡ plan_count t → 8 ≤ length r → marked ≡ same (take 3 r) (65 ∷ 80 ∷ 82 ∷ [])
-    → v ≡ version r → k ≡ plan_count r
-    → (not marked || not (eqb v 1) || not (eqb k n) || not (eqb (byte_at r 7) 0)) ≡ wrong_header t r
-long_header t r n v k marked whole l is_marked is_version is_count =
-    rw (le-ltb (length r) 8 l, is_marked, is_version, is_count, whole) refl
 
 pub long_enough : (t r : List ℕ) → wrong_header t r ≡ false → 8 ≤ length r
 long_enough t r e = ltb-false (length r) 8 (or_left _ _ (or_left _ _ (or_left _ _ (or_left _ _ e))))

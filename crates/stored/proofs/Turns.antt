@@ -3,27 +3,15 @@ use Prim.Native.Nat.{ℕ, ◌+◌, ◌*◌, ◌-◌, ◌≤◌, ◌<◌}
 use native.Mathlib.Omega.{arith}
 use native.Mathlib.Numerals.{add-one}
 use mathlib.Core.Path.{◌≡◌, refl, sym, ap, ◌∙◌}
-use mathlib.Core.Bool.{true, false}
 use mathlib.Core.List.{List}
-use lib.Dec.{leb}
 use lib.ListN.{length, set}
-use lib.Seq.{get_or-drop, take_all}
-use borrow.Author.Tests.{le-leb, lt-leb}
-use Rattle.rules.specs.Lists.{some_below, map_below, join_below}
+use lib.Seq.{get_or-drop}
+use Rattle.rules.specs.Lists.{map_below, join_below}
 use Rattle.rules.specs.Bytes.{byte_at}
 use Rattle.rules.specs.States.{state_of}
 use Rattle.stored.specs.Stored.{state_byte, since_at, states_in, eight_bytes, since_after, stamped}
-use Rattle.rules.proofs.Below.{some_below_lem}
 use Rattle.output.specs.Output.{Appended}
 use Rattle.output.proofs.Pieces.{none_yet, and_then, and_byte, as_one}
-
--- a number that a plan has stored, beside the step's
-module _ (number : ℕ) (z : List ℕ) (p since : ℕ) (read : since ≡ since_at z p) where
-  pub reached_at : (n : ℕ) → p < n → number ≤ since → some_below (λ k. leb number (since_at z k)) n ≡ true
-  reached_at n l h = some_below_lem (λ k. leb number (since_at z k)) n p l (le-leb number (since_at z p) (omega (arith, read)))
-
-  pub exceeded_at : since < number → leb number (since_at z p) ≡ false
-  exceeded_at h = lt-leb number (since_at z p) (omega (arith, read))
 
 -- the states of the first plans, copied
 pub no_states : (z states : List ℕ) → Appended states 0 (states_in 0 z) states 0
@@ -78,6 +66,3 @@ module _ (z new : List ℕ) (number : ℕ) where
       rw (is, same_state p stored laid, same_since p stored laid) refl in
       let next : end ≡ 8 * (p + 1) = omega (arith, put.place) in
       rw next at (as_one (and_then laid (as_one put piece)) (ap (λ k. stamped k z new number) (sym (add-one p))))
-
-  pub all_laid : (n : ℕ) (stored : List ℕ) → length stored ≡ 8 * n → Laid n stored → stored ≡ stamped n z new number
-  all_laid n stored long laid = sym (take_all (8 * n) stored (omega (arith, long))) ∙ laid.bytes
