@@ -6,7 +6,7 @@ ghost use Rattle.std.specs.Prelude.{◌≡◌, ◌≤◌, cond, length};
 ghost use Rattle.statements.specs.Words as Words;
 ghost use Rattle.statements.specs.Statements as Statements;
 
-// Stands for an open bound.
+// Stands for an open bound, in the numbers that `pattern` takes, as include/asbru.h has them for C.
 pub const OPEN: u64 = 0x8000_0000_0000_0000;
 
 // What a line says.
