@@ -112,6 +112,7 @@ struct Plans<'a> {
     ghost there: { HasPlans table.now n },
 }
 
+// The loops stay `for p in 0..n`: each turn puts bytes behind those before, and an iterator would hand out the plans, not the end.
 impl<'a> Plans<'a> {
     // Check 24, and the table in version 2.
     fn move_to_2(&self, output: &mut [u8]) -> Result<u16, Refusal>
@@ -157,7 +158,7 @@ impl<'a> Plans<'a> {
     fn count_nodes(&self) -> usize
         ensures { result ≡ nodes_before self.now.table.now self.now.n }
     {
-        (0..self.n).filter(|&p| !is_leaf_at(self.table, p)).count()
+        (0..self.n).filter(|&p| !self.is_leaf_at(p)).count()
     }
 
     // Puts the plans behind the header, those with children with the numbers of their nodes. It is not one function with `put_waiting`, by
@@ -169,8 +170,8 @@ impl<'a> Plans<'a> {
     {
         let mut nodes = 0;
         for p in 0..self.n {
-            put_plan(self.table, p, nodes as u8, output);
-            nodes += usize::from(!is_leaf_at(self.table, p));
+            self.put_plan(p, nodes as u8, output);
+            nodes += usize::from(!self.is_leaf_at(p));
         }
         8 + 8 * self.n
     }
@@ -182,7 +183,7 @@ impl<'a> Plans<'a> {
             output.new result }
     {
         for p in 0..self.n {
-            put_plan(self.table, p, self.number_waited(p), output);
+            self.put_plan(p, self.number_waited(p), output);
         }
         8 + 8 * self.n
     }
@@ -194,7 +195,7 @@ impl<'a> Plans<'a> {
     {
         byte_at(
             self.table,
-            11 + 8 * self.n + 4 * usize::from(wait_at(self.table, p)),
+            11 + 8 * self.n + 4 * usize::from(self.wait_at(p)),
         )
     }
 
@@ -205,9 +206,59 @@ impl<'a> Plans<'a> {
     {
         let mut end = at;
         for p in 0..self.n {
-            end = put_node(self.table, p, output, end);
+            end = self.put_node(p, output, end);
         }
         end
+    }
+
+    // Puts plan p, with another byte 7 if it has children, behind the plans before it.
+    fn put_plan(&self, p: usize, wait: u8, output: &mut [u8]) -> usize
+        requires there { p < self.now.n }
+        requires room { 8 * p + 16 ≤ length output.old }
+        ensures { Appended output.old (8 + 8 * p) (plan_as self.now.table.now p wait) output.new result }
+    {
+        let at = put(&self.table[8 + 8 * p..15 + 8 * p], output, 8 + 8 * p);
+        put_byte(self.wait_as(p, wait), output, at)
+    }
+
+    // Byte 7 of plan p as it is, or another if it has children.
+    fn wait_as(&self, p: usize, wait: u8) -> u8
+        requires { p < self.now.n }
+        ensures { result ≡ cond (is_leaf self.now.table.now p) (entry self.now.table.now p).wait wait }
+    {
+        if self.is_leaf_at(p) {
+            self.wait_at(p)
+        } else {
+            wait
+        }
+    }
+
+    // Puts the node of plan p there, if it has children.
+    fn put_node(&self, p: usize, output: &mut [u8], at: usize) -> usize
+        requires there { p < self.now.n }
+        requires room { at + length (node_as self.now.table.now p) ≤ length output.old }
+        ensures { Appended output.old at (node_as self.now.table.now p) output.new result }
+    {
+        if self.is_leaf_at(p) {
+            return at;
+        }
+        put(&[5, self.wait_at(p), 0, 0], output, at)
+    }
+
+    // Whether plan p has no children, by its body.
+    fn is_leaf_at(&self, p: usize) -> bool
+        requires { p < self.now.n }
+        ensures { result ≡ is_leaf self.now.table.now p }
+    {
+        is_leaf(entry_at(self.table, p))
+    }
+
+    // Byte 7 of plan p.
+    fn wait_at(&self, p: usize) -> u8
+        requires { p < self.now.n }
+        ensures { result ≡ (entry self.now.table.now p).wait }
+    {
+        entry_at(self.table, p).wait
     }
 }
 
@@ -221,58 +272,10 @@ fn put_header(version: u8, table: &[u8], output: &mut [u8]) -> usize
     put(&table[5..8], output, at)
 }
 
-// Puts plan p, with another byte 7 if it has children, behind the plans before it.
-fn put_plan(table: &[u8], p: usize, wait: u8, output: &mut [u8]) -> usize
-    requires { (8 * p + 16 ≤ length table.now) × (8 * p + 16 ≤ length output.old) }
-    ensures { Appended output.old (8 + 8 * p) (plan_as table.now p wait) output.new result }
-{
-    let at = put(&table[8 + 8 * p..15 + 8 * p], output, 8 + 8 * p);
-    put_byte(wait_as(table, p, wait), output, at)
-}
-
-// Byte 7 of plan p as it is, or another if it has children.
-fn wait_as(table: &[u8], p: usize, wait: u8) -> u8
-    requires { 8 * p + 16 ≤ length table.now }
-    ensures { result ≡ cond (is_leaf table.now p) (entry table.now p).wait wait }
-{
-    if is_leaf_at(table, p) {
-        wait_at(table, p)
-    } else {
-        wait
-    }
-}
-
 // Puts the number of nodes, in two bytes.
 fn put_count(nodes: usize, output: &mut [u8], at: usize) -> usize
     requires { (nodes < 65536) × (at + 2 ≤ length output.old) }
     ensures { Appended output.old at (nodes % 256 ∷ nodes / 256 ∷ []) output.new result }
 {
     put(&(nodes as u16).to_le_bytes(), output, at)
-}
-
-// Puts the node of plan p there, if it has children.
-fn put_node(table: &[u8], p: usize, output: &mut [u8], at: usize) -> usize
-    requires { (8 * p + 16 ≤ length table.now) × (at + length (node_as table.now p) ≤ length output.old) }
-    ensures { Appended output.old at (node_as table.now p) output.new result }
-{
-    if is_leaf_at(table, p) {
-        return at;
-    }
-    put(&[5, wait_at(table, p), 0, 0], output, at)
-}
-
-// Whether plan p has no children, by its body.
-fn is_leaf_at(table: &[u8], p: usize) -> bool
-    requires { 8 * p + 16 ≤ length table.now }
-    ensures { result ≡ is_leaf table.now p }
-{
-    is_leaf(entry_at(table, p))
-}
-
-// Byte 7 of plan p.
-fn wait_at(table: &[u8], p: usize) -> u8
-    requires { 8 * p + 16 ≤ length table.now }
-    ensures { result ≡ (entry table.now p).wait }
-{
-    entry_at(table, p).wait
 }

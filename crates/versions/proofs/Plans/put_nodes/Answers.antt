@@ -7,21 +7,19 @@ use Rattle.versions.proofs.Plans.put_nodes.Goals as goal
 pub loop-p-init : goal.loop-p-init
 loop-p-init c = (omega arith, refl, no_nodes _ _)
 
-pub put_node-end-requires : goal.put_node-end-requires
-put_node-end-requires c =
+pub put_node-end-requires-clause-room : goal.put_node-end-requires-clause-room
+put_node-end-requires-clause-room c =
     let t = c.args.self.now.table.now in
-    let p = c.loop-p.p in (
-      omega (arith, c.args.self.now.there.room),
-      omega (
-        arith,
-        c.requires,
-        c.loop-p.invariant.1,
-        c.loop-p.invariant.2.place,
-        length_nodes t p,
-        length_node t p,
-        next_count t p,
-        nodes_rise t (p + 1) c.args.self.now.n (omega arith),
-      ),
+    let p = c.loop-p.p in
+    omega (
+      arith,
+      c.requires,
+      c.loop-p.invariant.1,
+      c.loop-p.invariant.2.place,
+      length_nodes t p,
+      length_node t p,
+      next_count t p,
+      nodes_rise t (p + 1) c.args.self.now.n (omega arith),
     )
 
 pub loop-p-preserved : goal.loop-p-preserved
