@@ -29,8 +29,10 @@ use Rattle.children.specs.Sets.{Empty, set_of}
 use Rattle.children.proofs.Sets.{set_ones}
 use Rattle.lowest.specs.Lowest.{Lowest}
 use Rattle.lowest.proofs.Lowest.{lowest_is, lowest_as, lower, lowest_either}
-use Rattle.nodes.specs.Checking.{HasNodes, Uses, bad_operands, FirstOwners, owned_each, Owners, asks_beyond, asks_more, asking}
-use Rattle.std.specs.Prelude.{Option, Err, Some, None}
+use Rattle.nodes.specs.Checking.{HasNodes, Uses, bad_operands, FirstOwners, owned_each, Owners, asks_beyond, asks_more, asking, asking_plan}
+use Rattle.std.proofs.Common.{add-zero, zero-add}
+use Rattle.std.specs.Prelude.{Option, Err, Some, None, filter_map, fold}
+use Rattle.std.specs.List.{range_with_len, reduce}
 use Rattle.std.specs.Option.{MatchOption}
 
 -- the highest number that is found is below those looked through
@@ -312,7 +314,7 @@ module _
     abbrev o : ℕ
     o = byte_at owners i
 
-    owner_is : o ≡ owner t i
+    pub owner_is : o ≡ owner t i
     owner_is = known.owned i inside
 
     pub owner_plan : o < n
@@ -368,17 +370,17 @@ module _
     unfolding asks_too_many
     asks_other p ne = rw (ne_eqb (owner t i) p ne) refl
 
-    pub asking_one :
+    asking_one :
         asks_too_many t (owner t i) i ≡ true → (r : Option ℕ) → Lowest (asking t i) n r
-        → (x : ℕ) → MatchOption r (x ≡ o) (λ q. x ≡ min q o) → Lowest (asking t (i + 1)) n (Some x)
+        → (x : ℕ) → MatchOption r (x ≡ owner t i) (λ q. x ≡ min q (owner t i)) → Lowest (asking t (i + 1)) n (Some x)
     unfolding some_below
     asking_one too_many r before x low =
-        subst (Lowest (asking t (i + 1)) n) (lower_is r o x low)
+        subst (Lowest (asking t (i + 1)) n) (lower_is r (owner t i) x low)
         (rw (add-one i)
-        (lowest_either (asking t i) (λ p. asks_too_many t p i) n r (Some o) before
-        (owner_plan, rw owner_is too_many, λ p l. asks_other p (λ e. omega (arith, owner_is)))))
+        (lowest_either (asking t i) (λ p. asks_too_many t p i) n r (Some (owner t i)) before
+        (omega (arith, owner_is, owner_plan), too_many, λ p l. asks_other p (λ e. omega arith))))
 
-    pub asking_not : asks_too_many t (owner t i) i ≡ false → (r : Option ℕ) → Lowest (asking t i) n r → Lowest (asking t (i + 1)) n r
+    asking_not : asks_too_many t (owner t i) i ≡ false → (r : Option ℕ) → Lowest (asking t i) n r → Lowest (asking t (i + 1)) n r
     unfolding some_below
     asking_not enough r before = rw (add-one i) (lowest_as (asking t i) (asking t (suc i)) n r (λ p. same p (ℕ_discrete (owner t i) p)) before)
       where
@@ -387,9 +389,54 @@ module _
         same p (no ne) = sym (rw (asks_other p ne) (or-false (asking t i p)))
 
 -- before any node is looked at nobody asks
-pub asking_none : (t : List ℕ) (n : ℕ) → Lowest (asking t 0) n None
+asking_none : (t : List ℕ) (n : ℕ) → Lowest (asking t 0) n None
 unfolding some_below
 asking_none t n = λ p l. refl
+
+-- the lowest of the plans that ask for too many in the nodes from the first to the last is the lowest plan that does
+module _ (t : List ℕ) (n k : ℕ) (nodes : HasNodes t n k) (owners : List ℕ) (known : Owners t k owners) where
+  abbrev lowest_of : Option ℕ → List ℕ → Option ℕ
+  lowest_of None ps = reduce min ps
+  lowest_of (Some p) ps = Some (fold min p ps)
+
+  asked_on :
+      (j i : ℕ) → i + j ≤ k → (r : Option ℕ) → Lowest (asking t i) n r
+      → Lowest (asking t (i + j)) n (lowest_of r (filter_map (asking_plan t) (range_with_len i j)))
+  asked_on zero i l r before = rw (add-zero i) (ended r before)
+    where
+      ended : (r : Option ℕ) → Lowest (asking t i) n r → Lowest (asking t i) n (lowest_of r [])
+      ended None b = b
+      ended (Some p) b = b
+  asked_on (suc j) i l r before = go (asks_too_many t (owner t i) i) refl (asked_on j (i + 1) (omega (arith, l)))
+    where
+      rest : List ℕ
+      rest = filter_map (asking_plan t) (range_with_len (i + 1) j)
+
+      Later : Type 0
+      Later = (r : Option ℕ) → Lowest (asking t (i + 1)) n r → Lowest (asking t (i + 1 + j)) n (lowest_of r rest)
+
+      met :
+          (r : Option ℕ) → Lowest (asking t i) n r → asks_too_many t (owner t i) i ≡ true → Later
+          → Lowest (asking t (i + 1 + j)) n (lowest_of r (owner t i ∷ rest))
+      met None b e later = later (Some (owner t i)) (asking_one t n k nodes owners known i (omega (arith, l)) e None b (owner t i) refl)
+      met (Some q) b e later =
+          later (Some (min q (owner t i)))
+          (asking_one t n k nodes owners known i (omega (arith, l)) e (Some q) b (min q (owner t i)) refl)
+
+      goal : ℕ → Type 0
+      goal m = Lowest (asking t m) n (lowest_of r (filter_map (asking_plan t) (range_with_len i (suc j))))
+
+      on : i + 1 + j ≡ i + suc j
+      on = omega arith
+
+      go : (b : Bool) → asks_too_many t (owner t i) i ≡ b → Later → goal (i + suc j)
+      go true e later = subst goal on (rw e (met r before e later))
+      go false e later =
+          subst goal on (rw e (later r (asking_not t n k nodes owners known i (omega (arith, l)) e r before)))
+
+  pub asked_by : Lowest (asking t k) n (reduce min (filter_map (asking_plan t) (range_with_len 0 k)))
+  asked_by = subst (λ (m : ℕ). Lowest (asking t m) n (reduce min (filter_map (asking_plan t) (range_with_len 0 k)))) (zero-add k)
+      (asked_on k 0 (omega arith) None (asking_none t n))
 
 -- a plan's wait is bad if a node asks for too many in its formula
 wait_is : (t : List ℕ) (n k : ℕ) → HasNodes t n k → (p : ℕ) → bad_wait t p ≡ asking t k p

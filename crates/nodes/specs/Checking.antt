@@ -1,5 +1,6 @@
 -- What is known while the formulas of a table of version 2 are checked. Nobody has to believe this: how the code decides. Assumes nothing.
-use Rattle.std.specs.Prelude.{ℕ, ◌+◌, ◌*◌, ◌≤◌, ◌<◌, ◌≡◌, Bool, false, not, ◌||◌, List, [], ◌∷◌, eqb, leb, length, get_or, set, min}
+use Rattle.std.specs.Prelude.{ℕ, ◌+◌, ◌*◌, ◌≤◌, ◌<◌, ◌≡◌, Bool, false, not, ◌||◌, List, [], ◌∷◌, eqb, leb, length, get_or, set, min, Option}
+use Rattle.std.specs.Bool.{then_some}
 use Rattle.std.specs.Int.Count.{ones}
 use Rattle.rules.specs.Bytes.{byte_at}
 use Rattle.rules.specs.Lists.{count, some, some_below, highest}
@@ -81,3 +82,7 @@ asks_more (AtLeast m) names = not (leb m (ones names))
 -- in the formula of plan p one of the first i nodes asks for too many
 abbrev pub asking : List ℕ → ℕ → ℕ → Bool
 asking t i p = some_below (asks_too_many t p) i
+
+-- the owner of node i, where node i asks for too many of its children
+abbrev pub asking_plan : List ℕ → ℕ → Option ℕ
+asking_plan t i = then_some (asks_too_many t (owner t i) i) (owner t i)

@@ -1,17 +1,18 @@
 // Checks the formulas of a table of version 2: 22, and 9 of the numbers that they ask for. Document 02 (v).
 // All of it costs O(plans + nodes). Assumes a table that has passed the checks before 22.
+// A `for` over plans or nodes stays where each turn writes the places of a buffer that the plan's or the node's own bytes name: no chain
+// or method hands on a slice's places in such an order, so it would be the same loop.
 #![tactic(auto)]
 
-ghost use Rattle.std.specs.Prelude.{◌≡◌, false, ◌||◌, ℕ, ◌<◌, ◌≤◌, leb, ltb, length, min};
-ghost use Rattle.std.specs.Option.{MatchOption};
+ghost use Rattle.std.specs.Prelude.{◌≡◌, false, ◌||◌, ℕ, ◌<◌, ◌≤◌, leb, ltb, length};
 ghost use Rattle.rules.specs.Lists.{least, some_below};
-ghost use Rattle.rules.specs.WaitFor.{asks, operands, node_count, node, owner};
-ghost use Rattle.rules.specs.Answers.{◌and_then◌, refuse_at, stray_first, bad_bytes, bad_node, bad_rank, bad_wait, asks_too_many, formulas_check};
+ghost use Rattle.rules.specs.WaitFor.{asks, operands, node_count, node};
+ghost use Rattle.rules.specs.Answers.{◌and_then◌, refuse_at, stray_first, bad_bytes, bad_node, bad_rank, bad_wait, formulas_check};
 ghost use Rattle.rules.specs.declared.Refusal.TheVariants.{Formula, Wait};
 ghost use Rattle.children.specs.Sets.{Empty};
 ghost use Rattle.lowest.specs.Lowest.{Lowest};
 ghost use Rattle.nodes.specs.Checking.{HasNodes, Uses, used_once_more, used_each, bad_operands, FirstOwners, owned_each, Owners, Children};
-ghost use Rattle.nodes.specs.Checking.{asks_beyond, asks_more, asking};
+ghost use Rattle.nodes.specs.Checking.{asks_beyond, asks_more, asking, asking_plan};
 
 use reading::{entry_at, is_leaf, node_at, node_count};
 use rules::{Asks, Node, Refusal, at_least};
@@ -159,7 +160,8 @@ fn count_use(uses: &mut [u8], i: u8)
     uses[at] = uses[at].saturating_add(1);
 }
 
-// One more use of each operand of a node.
+// One more use of each operand of a node. This, `bad_operands` and `own_operands` are no one function with a closure for an operand: two
+// write to a slice and one answers, so its contract would follow the closure's calls one by one, to save a `match` of three lines.
 fn count_operands(uses: &mut [u8], asked: Asks)
     requires { 256 ≤ length «uses».old }
     ensures { «uses».new ≡ used_each «uses».old (operands asked) }
@@ -263,28 +265,20 @@ impl<'a> Owned<'a> {
         asks_beyond(node_at(self.nodes.table, i).asks(), self.counts[owner])
     }
 
-    // The lowest plan in whose formula a node asks for more named children than the plan has. No `filter` and `min`: std has no law of
-    // what these answer.
+    // The lowest plan in whose formula a node asks for more named children than the plan has.
     fn lowest_asking(&self) -> Option<usize>
         ensures { Lowest (asking self.now.nodes.table.now self.now.nodes.k) self.now.nodes.n result }
     {
-        let mut lowest = None;
-        for i in 0..self.nodes.k {
-            if self.asks_too_many(i) {
-                let owner = usize::from(self.owners[i]);
-                lowest = Some(lower(lowest, owner));
-            }
-        }
-        lowest
+        (0..self.nodes.k).filter_map(|i| self.asking_plan(i)).min()
     }
 
-    // Whether node i does of the plan that owns it.
-    fn asks_too_many(&self, i: usize) -> bool
+    // The plan that owns node i, if node i asks for more of its named children than it has.
+    fn asking_plan(&self, i: usize) -> Option<usize>
         requires { i < self.now.nodes.k }
-        ensures { result ≡ asks_too_many self.now.nodes.table.now (owner self.now.nodes.table.now i) i }
+        ensures { result ≡ asking_plan self.now.nodes.table.now i }
     {
         let owner = usize::from(self.owners[i]);
-        asks_more(node_at(self.nodes.table, i).asks(), self.names[owner])
+        asks_more(node_at(self.nodes.table, i).asks(), self.names[owner]).then_some(owner)
     }
 }
 
@@ -306,11 +300,4 @@ fn asks_more(asked: Asks, names: u64) -> bool
         Asks::AtLeast(m) => !at_least(u32::from(m), names),
         _ => false,
     }
-}
-
-// The lower of a plan and the one found before, if there is one.
-fn lower(found: Option<usize>, p: usize) -> usize
-    ensures { MatchOption found (result ≡ p) (λ q. result ≡ min q p) }
-{
-    found.map_or(p, |q: usize| q.min(p))
 }
