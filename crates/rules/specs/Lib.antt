@@ -6,16 +6,18 @@
 -- How to read them. `-- ..` is a comment. Lines that begin with `use` say where names come from: skip them, but for `x as y`, where y is
 --   the name of x here, and `y.z` the z of x. `pub mod` names a file.
 --   `f : A → B → C` says what f takes and gives; the lines under it define it, one for each shape: `f zero` and `f (suc k)` are the cases
---   0 and k + 1, others `f []`, `f (x ∷ xs)`, `f Inactive`, `f (Refused why)`. `f a b` is f of a and b, and binds tighter than any symbol.
---   A function that is given fewer things than it takes is one of the rest: `eqb j` tests whether a number is j. `_andThen_` is written
+--   0 and k + 1, others `f []`, `f (x ∷ xs)`, `f Inactive`, `f (Err why)`. `f a b` is f of a and b, and binds tighter than any symbol.
+--   A function that is given fewer things than it takes is one of the rest: `eqb j` tests whether a number is j. `◌and_then◌` is written
 --   between its two. `λ c. ..` is a function of c; `let y = .. in ..` gives a name. `{A : Type 0} →`: for things of any kind A.
 --   `module _ (t : ..) where`: what stands in it takes t first, which is left out there, and is written `f t ..` elsewhere.
 --   ℕ: the numbers from 0. Bytes, plans and steps are numbers; a slice is the list of its bytes. `+ - * / % ^` are sum, difference
 --   (never below 0), product, whole quotient, remainder, power; `x / 2 ^ k % 2` is ((x / (2 ^ k)) % 2). `max`, `min`: the larger, the
 --   smaller.
---   `cond b x y` is x where b is true, else y. `elim x [ S ↦ a | R why ↦ b ]` is a where x is S, and b where x is R of something, which
---   b calls why. `not`, `&&`, `||`: && joins more closely.
---   `eqb`, `ltb`, `leb` test a = b, a < b, a ≤ b, and `Bool·beq` whether two tests agree. `T b`: the test b is true.
+--   `cond b x y` is x where b is true, else y. `elim x [ None ↦ a | Some k ↦ b ]` is a where x is None, and b where x is Some of something,
+--   which b calls k. `not`, `&&`, `||`: && joins more closely.
+--   `Option A` is `None`, nothing, or `Some x`, an x of A; `Result A B` is `Ok x`, an x of A, or `Err y`, a y of B, which says why there is
+--   none. `tt` is the one value of `Unit`: `Ok tt` says only that all is well.
+--   `eqb`, `ltb`, `leb` test a = b, a < b, a ≤ b, and `beq` whether two tests agree. `T b`: the test b is true.
 --   A claim holds or does not. `x ≡ y`: they are the same; `x ≤ y`, `x < y`. `A → B` between claims: if A holds, so does B; `A → ⊥`: A
 --   does not hold; `⊥` never does, `Unit` always. `A ⊎ B`: one of the two, or both; `A × B`: both. `(a : A) → B`: of every a B holds;
 --   `(a : A) × B`: some a of which B holds. What ends in `→ Type 0` is a claim, and so is a `record` or a `data` with claims among its

@@ -1,6 +1,6 @@
 -- Document 01, 'States': the nine states, their codes and the three groups; and of document 02 (ix) the codes of the causes. Assumes
 -- nothing.
--- `code` is the one place of the definitions with the states' numbers; `PlanState::to_byte` holds it to the constants of the source.
+-- `code` is the one place of the definitions with the states' numbers; `u8::from` of a state holds it to the constants of the source.
 use Rattle.std.specs.Prelude.{ℕ, Bool, false, ◌||◌, List, [], ◌∷◌, get_or, length, eqb, ltb}
 use Rattle.rules.specs.Bytes.{byte_at}
 use Rattle.rules.specs.declared.Cause.{Cause}
