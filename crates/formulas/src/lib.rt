@@ -19,8 +19,8 @@ pub fn find_numbers(table: &[u8], n: usize, names: &mut [u64])
     requires { Waiting table.now n × (n + n ≤ length names.old) }
     ensures { Numbered table.now n n names.old names.new }
 {
-    for p in 0..n {
-        names[n + p] = number_asked(table, n, p);
+    for (p, number) in names[n..n + n].iter_mut().enumerate() {
+        *number = number_asked(table, n, p);
     }
 }
 
