@@ -1,5 +1,7 @@
 // Sets of children as 64-bit words, a bit for each rank: what each plan's children are at, found in one pass over the plans.
 // Every function here costs O(n) for n plans. Assumes a table whose plans have earlier parents: check 6 sees to it.
+// The `for` over plan numbers stays: a turn reads and writes several slices, at a plan and at its parent, and an iterator hands on places
+// one by one.
 // No struct of a table and its ranks: each caller would build it for a call or two. The words of `survey` lie flat, nine a plan, since
 // `Surveyed`, which it promises, counts them so.
 #![tactic(auto)]
