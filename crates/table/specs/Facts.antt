@@ -1,4 +1,4 @@
--- What check 6 finds, the rules of checks 7, 8 and 9 one by one, and what is known of a table that passes. Assumes nothing.
+-- What check 6 finds, what checks 22 and 9 answer, a table's facts and the room for them, and where a sub tree ends. Assumes nothing.
 use Rattle.std.specs.Prelude.{ℕ, ◌+◌, ◌*◌, ◌≤◌, ◌<◌, ◌≡◌, Bool, cond, ◌&&◌, List, length, get_or, ltb, Option, None}
 use Rattle.rules.specs.Bytes.{byte_at}
 use Rattle.rules.specs.Lists.{least}

@@ -70,7 +70,8 @@ pub fn table_size(table: &[u8]) -> usize
 }
 
 // Checks 1 to 9 and 22. Of a good table the buffers then hold the plans' ranks, numbers of children, named children, and, behind these,
-// how many of them each plan waits for.
+// how many of them each plan waits for. Three slices that the caller lends, here, in `body_check` and in those above, and no struct: the
+// project's rule is no heap, and no struct of arrays copied about (docs/DECISIONS.md, 'Buffers of a table's facts').
 pub fn read_table(
     table: &[u8],
     ranks: &mut [u8],
@@ -95,7 +96,8 @@ pub fn check_table(table: &[u8]) -> Result<u16, Refusal>
     Ok(u16_at(table, 5))
 }
 
-// The sub tree question: the caller's own states from the plan through its last descendant, or none of them.
+// The sub tree question: the caller's own states from the plan through its last descendant, or none of them: then the empty slice, and no
+// Option, is the answer, here and in `part`, since `sub_tree`, which both promise, is a list of states.
 pub fn sub_tree<'a>(table: &[u8], states: &'a [u8], plan: usize) -> &'a [u8]
     ensures { result.now ≡ sub_tree table.now states.now plan }
 {
