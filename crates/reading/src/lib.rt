@@ -110,7 +110,7 @@ pub fn u32_at(s: &[u8], i: usize) -> u32
 pub fn byte_at(s: &[u8], i: usize) -> u8
     ensures { result ≡ byte_at s.now i }
 {
-    if i < s.len() { s[i] } else { 0 }
+    s.get(i).copied().unwrap_or(0)
 }
 
 // A 16-bit number that may lie past the end: bytes that are missing count as 0.
