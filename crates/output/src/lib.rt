@@ -1,5 +1,6 @@
 // Puts bytes into a lent slice, a piece behind the other: each contract says every byte of the slice, also those past the new end, which
 // stay. Every function costs O(1) a byte that it puts. Assumes that there is room.
+// A slice with its end beside it, and no writer: the C interface lends the output, and `Appended` is over every byte of that slice.
 #![tactic(auto)]
 
 ghost use Rattle.std.specs.Prelude.{[], ◌∷◌, ◌+◌, ◌<◌, ◌≤◌, length};
