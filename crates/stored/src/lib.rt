@@ -2,6 +2,8 @@
 // not 0 and for a number that a step may not have, and lays down what a step leaves. `Stored` of specs/ has the layout, which
 // only this crate's code knows too. Each function costs O(n) for n plans; nothing is allocated. Assumes that there are eight bytes for each
 // plan, as who calls has looked at the length.
+// The bytes stay flat, with n beside them: so the C interface is to lend them, and `states_in` and `stamped` are over such bytes.
+// The loops stay `for p in 0..n`: each turn reads one slice and writes another, at places that eight bytes a plan part.
 #![tactic(auto)]
 
 ghost use Rattle.std.specs.Prelude.{◌≡◌, cond, ◌+◌, ◌*◌, ◌≤◌, leb, length};
