@@ -7,7 +7,7 @@ ghost use Rattle.rules.specs.Answers.{placed, place};
 
 use rules::{Place, Refusal};
 
-// The number of the refusal and its place.
+// The number of the refusal and its place. No `From<Refusal> for Place`: it would have to stand in `rules`, where both types are.
 pub fn place(why: Refusal) -> Place
     ensures { result ≡ place why }
 {
