@@ -24,7 +24,7 @@ const LAST: u64 = 5_000_000_000;
 // A minute beyond all that are asked about.
 const FAR: u64 = 20_000_000_000;
 
-// The least of all numbers in two's complement, which stands for an open bound.
+// The least of all numbers in two's complement: what asbru.h hands in and out for an open bound, ASBRU_OPEN. In between it is None.
 const NONE: u64 = 0x8000_0000_0000_0000;
 
 // The most samples.
