@@ -1,5 +1,5 @@
--- What numbers a text can say: they lie within ten thousand million of 0, in two's complement, so that the least of all numbers, which
--- stands for an open bound, and the one behind it are none. Assumes nothing.
+-- A number that no text says: the one behind the least, in two's complement, since what digits say lies within ten thousand million of 0.
+-- Assumes nothing.
 use Rattle.std.proofs.Common.{◌≡◌, ℕ, suc, ◌+◌, ◌*◌, ◌-◌, ◌^◌, ◌<◌, Bool, true, false, cond, List, [], ◌∷◌, length, drop, refl, ap, arith, Option, None, Some}
 use Rattle.std.specs.Prelude.{◌==◌, nat_lt, slice_index}
 use Rattle.std.specs.Str.{bytes_eq}

@@ -6,7 +6,8 @@ ghost use Rattle.std.specs.Prelude.{◌≡◌, ◌≤◌, cond, length};
 ghost use Rattle.statements.specs.Words as Words;
 ghost use Rattle.statements.specs.Statements as Statements;
 
-// Stands for an open bound, in the numbers that `pattern` takes, as include/asbru.h has them for C.
+// Stands for an open bound, in the numbers that `pattern` takes, as include/asbru.h has them for C. A number and no Option, since these are
+// the numbers of the C interface (ASBRU_OPEN).
 pub const OPEN: u64 = 0x8000_0000_0000_0000;
 
 // What a line says.
