@@ -33,7 +33,7 @@ abbrev pub once : {A : Type 0} → Option A → A → Result (Option A) Fault
 once None x = Ok (Some x)
 once (Some y) x = Err Again
 
--- what was told, with two bounds, with a number, and with what a line says
+-- what f makes of what is said once, or the fault
 abbrev pub if_once : {A B : Type 0} → (A → B) → Result A Fault → Result B Fault
 if_once f (Ok x) = Ok (f x)
 if_once f (Err fault) = Err fault
@@ -54,6 +54,7 @@ module _ (told : Told) where
   abbrev pub told_asked : Option ℕ → Told
   told_asked x = record { start = told.start; finish = told.finish; lasts = told.lasts; from = told.from; asked = x }
 
+-- what was told, with two bounds, with a number, and with what a line says
 abbrev pub told_bounds : Pair → ℕ × ℕ → Told → Result Told Fault
 told_bounds Start b told = if_once (told_start told) (once told.start b)
 told_bounds Finish b told = if_once (told_finish told) (once told.finish b)
@@ -69,7 +70,7 @@ told_and (Bounds pair x y) told = told_bounds pair (x, y) told
 told_and (One single x) told = told_one single x told
 told_and (Sample x) told = Ok told
 
--- the same of a line, which may be wrong, and its sample
+-- what was told, with a line, which may be wrong, and its sample
 abbrev pub told_by : Result Saying Fault → Told → Result Told Fault
 told_by (Ok saying) told = told_and saying told
 told_by (Err fault) told = Err fault

@@ -1,5 +1,5 @@
 -- What is printed for a text: the answer to what it tells, in the words of crate `printing`. Assumes nothing.
-use Rattle.std.specs.Prelude.{ℕ, ◌≤◌, ◌<◌, ◌≡◌, List, length, Result, Ok}
+use Rattle.std.specs.Prelude.{ℕ, ◌≤◌, ◌<◌, ◌≡◌, List, ◌++◌, length, Result, Ok}
 use Rattle.rules.specs.declared.Refusal.{Refusal}
 use Rattle.rules.specs.declared.Refusal.TheVariants.{InputLong}
 use Rattle.rules.specs.Answers.{Outcome}
@@ -7,7 +7,7 @@ use Rattle.time.specs.Normal.{Normalised}
 use Rattle.time.specs.Patterns.{Judged}
 use Rattle.time.specs.declared.Judgement.{Judgement}
 use Rattle.statements.specs.declared.Fault.{Fault}
-use Rattle.printing.specs.Printing.{refused_text, wrong_text, answer_text}
+use Rattle.printing.specs.Printing.{refused_text, wrong_text, judged_text, form_text, answer_text}
 use Rattle.aptime.specs.Lines.{wrong, said_in}
 use Rattle.aptime.specs.declared.Question.{Question}
 use Rattle.aptime.specs.declared.Response.{Response}
@@ -17,7 +17,7 @@ use Rattle.aptime.specs.declared.Response.TheVariants as response
 abbrev pub response_text : Response → List ℕ
 response_text (response.Refused why) = refused_text why
 response_text (response.Wrong w) = wrong_text w.line w.fault
-response_text (response.Answered a) = answer_text (Ok a.judgement) a.outcome a.numbers
+response_text (response.Answered a) = judged_text a.judgement ++ form_text a.normal
 
 -- the answer to a question: of a judgement and a normal form that the definitions permit
 pub record Answered (question : Question) (samples out : List ℕ) : Type 0 where

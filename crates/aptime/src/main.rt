@@ -1,16 +1,16 @@
 // The program `aptime`: a time annotation and a history in words on standard input; on standard output whether the history satisfies the
-// annotation or still can, and the annotation's normal form. `report` is the whole of it on a slice: its contract fixes every byte that its
-// answer is printed with. Where standard input cannot be read to its end there is no input, and so no answer: `main` says so on standard
+// annotation or still can, and the annotation's normal form. `report` is the whole of it on a slice, and `bytes` those of its answer, which
+// `main` hands over in one write: their contracts fix every byte. Where standard input cannot be read to its end there is no input, and so no answer: `main` says so on standard
 // error. Assumes what crate `text` does of the system's read and write.
 #![tactic(auto)]
 
-ghost use Rattle.std.specs.Prelude.{◌≡◌, ◌+◌, ◌<◌, ◌≤◌, ◌∷◌, [], ◌++◌, length, Some, MatchOption};
+ghost use Rattle.std.specs.Prelude.{◌≡◌, ◌+◌, ◌<◌, ◌≤◌, ◌∷◌, [], ◌++◌, length, Some, IfOk, MatchOption};
 ghost use Rattle.arrayvec.specs.ArrayVec.{array_vec_len};
 ghost use Rattle.aptime.specs.Lines as Lines;
 ghost use Rattle.aptime.specs.Printed as Printed;
 ghost use Rattle.aptime.specs.Steps as Steps;
 
-use arrayvec::ArrayVec;
+use arrayvec::{ArrayString, ArrayVec};
 use printing::{Answer, Wrong};
 use rules::Refusal;
 use statements::{Fault, OPEN, Pair, Saying, Single};
@@ -23,7 +23,11 @@ fn main(rt: HostRuntime) {
         let _ = eprintln!(rt; "aptime: standard input cannot be read; nothing is answered");
         return;
     };
-    if print!(rt; "{}", report(&input[..n])).is_err() {
+    let Ok(text) = bytes(&input[..n]) else {
+        let _ = eprintln!(rt; "aptime: standard output cannot be written");
+        return;
+    };
+    if rt.stdout().write_all(text.as_bytes()).is_err() {
         let _ = eprintln!(rt; "aptime: standard output cannot be written");
     }
 }
@@ -62,18 +66,21 @@ fn report(input: &[u8]) -> Response
     }
 }
 
+// The bytes of that answer. No answer takes more than 512.
+fn bytes(input: &[u8]) -> Result<ArrayString<512>, fmt::Error>
+    ensures { IfOk result (λ text. Printed.Printed input.now text.bytes) }
+{
+    text::rendered(report(input))
+}
+
 // The answer to what was told.
 fn answer(question: Question, samples: &[u64]) -> Response
     ensures { Printed.Answered question samples.now (Printed.response_text result) }
 {
     let mut numbers = question.numbers;
-    let outcome = pattern::normalise(&mut numbers);
+    let normal = pattern::normalise(&mut numbers).and(Ok(numbers));
     match pattern::judge(&question.numbers, samples, question.asked) {
-        Ok(judgement) => Response::Answered(Answer {
-            judgement,
-            outcome,
-            numbers,
-        }),
+        Ok(judgement) => Response::Answered(Answer { judgement, normal }),
         Err(why) => Response::Refused(why),
     }
 }
@@ -176,7 +183,7 @@ fn once<T: Copy>(before: Option<T>, said: T) -> Result<Option<T>, Fault>
     Ok(Some(said))
 }
 
-// Reads a text line by line. Its samples are put behind those that there are.
+// Reads a text line by line. Its samples are put into `samples`, which is empty before.
 #[tactic(auto, using(crate::proofs::Turns::at_first, crate::proofs::Turns::goes_on, crate::proofs::Turns::stops, crate::proofs::Turns::not_asked, crate::proofs::Turns::all_read,))]
 fn read(input: &[u8], samples: &mut ArrayVec<u64, 65536>) -> Result<Question, Wrong>
     requires { (length input.now ≤ 65536) × (samples.old.items ≡ []) }

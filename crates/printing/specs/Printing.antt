@@ -54,6 +54,11 @@ refused_text why = line 0 (Err why)
 abbrev pub no_normal_text : Refusal → List ℕ
 no_normal_text why = text "no normal form: " ++ refused_text why
 
+-- the numbers of the normal form, or why there is none; and the same of what normalising came to and the numbers that it left
+abbrev pub form_text : Result (List ℕ) Refusal → List ℕ
+form_text (Ok numbers) = normal_text numbers
+form_text (Err why) = no_normal_text why
+
 abbrev pub outcome_text : Outcome → List ℕ → List ℕ
 outcome_text (Ok tt) numbers = normal_text numbers
 outcome_text (Err why) numbers = no_normal_text why

@@ -43,21 +43,20 @@ fn words(fault: Fault) -> &'static str
     }
 }
 
-// An answer: what was judged, and what normalising came to and left of the annotation's numbers.
+// An answer: what was judged, and the numbers of the normal form or why there is none.
 #[derive(Clone, Copy)]
 pub struct Answer {
     pub judgement: Judgement,
-    pub outcome: Result<(), Refusal>,
-    pub numbers: [u64; 7],
+    pub normal: Result<[u64; 7], Refusal>,
 }
 
 impl fmt::Display for Answer {
-    ghost output = { λ a. Some (Printing.answer_text (Ok a.judgement) a.outcome a.numbers) };
+    ghost output = { λ a. Some (Printing.judged_text a.judgement ++ Printing.form_text a.normal) };
 
     fn fmt<W: fmt::Write>(&self, f: &mut fmt::Formatter<W>) -> fmt::Result {
         write!(f, "{}", Judged(self.judgement))?;
-        match self.outcome {
-            Ok(()) => write!(f, "normal form:\n{}", Annotation(self.numbers)),
+        match self.normal {
+            Ok(numbers) => write!(f, "normal form:\n{}", Annotation(numbers)),
             Err(why) => write!(f, "no normal form: {}", RefusalLine(why)),
         }
     }
