@@ -1,13 +1,15 @@
 // The program `aprcheck` of document 01: a table and then a record on standard input, one line on standard output.
-// `report` is the whole of it on a slice: its contract says that the line is that of a verdict which the definitions permit.
+// `report` is the whole of it on a slice: its contract says that the line is that of a verdict which the definitions permit. `bytes` are
+// those of the line, which `main` hands over in one write.
 // Where standard input cannot be read to its end there is no input, and so no line: `main` says so on standard error.
 // Assumes what crate `text` does of the system's read and write.
 #![tactic(auto)]
 
-ghost use Rattle.std.specs.Prelude.{◌≡◌, ◌≤◌, length, Some, Ok, Err};
+ghost use Rattle.std.specs.Prelude.{◌≡◌, ◌≤◌, length, Some, Ok, Err, IfOk};
 ghost use Rattle.rules.specs.Table.{plan_count};
 ghost use Rattle.rules.specs.Program.{table_length, Answered, line, Printed};
 
+use arrayvec::ArrayString;
 use rules::Refusal;
 use std::fmt;
 use text::RefusalLine;
@@ -18,7 +20,11 @@ fn main(rt: HostRuntime) {
         let _ = eprintln!(rt; "aprcheck: standard input cannot be read; nothing is judged");
         return;
     };
-    if print!(rt; "{}", report(&input[..n])).is_err() {
+    let Ok(text) = bytes(&input[..n]) else {
+        let _ = eprintln!(rt; "aprcheck: standard output cannot be written");
+        return;
+    };
+    if rt.stdout().write_all(text.as_bytes()).is_err() {
         let _ = eprintln!(rt; "aprcheck: standard output cannot be written");
     }
 }
@@ -51,6 +57,13 @@ fn report(input: &[u8]) -> Line
         plans: plan_count(input),
         verdict: answer(input),
     }
+}
+
+// The bytes of that line. No line takes more than 128.
+fn bytes(input: &[u8]) -> Result<ArrayString<128>, fmt::Error>
+    ensures { IfOk result (λ text. Printed input.now text.bytes) }
+{
+    text::rendered(report(input))
 }
 
 // The verdict on an input, under rule 2: its length is looked at first.
