@@ -1,15 +1,18 @@
 // The program `aptmove` of document 02 (vi): a plan table on standard input, the moved one on standard output; version 1 becomes 2, and 2
 // becomes 1. A table that is refused leaves standard output empty, and standard error has the line for the refusal. `report` is the whole
-// of it on slices: its contract fixes every byte of both. Where standard input cannot be read to its end there is no table: `main` says so
-// on standard error. Assumes what crate `text` does of the system's read and write.
+// of it on slices, and `bytes` those of the line, which `main` hands over in one write: their contracts fix every byte of both. Where
+// standard input cannot be read to its end there is no table: `main` says so on standard error. Assumes what crate `text` does of the
+// system's read and write.
 #![tactic(auto)]
 
-ghost use Rattle.std.specs.Prelude.{◌≡◌, ◌≤◌, length};
+ghost use Rattle.std.specs.Prelude.{◌≡◌, ◌≤◌, length, Err, IfOk};
 ghost use Rattle.rules.specs.WaitFor.{first_version};
 ghost use Rattle.versions.specs.Versions.{move_answer, move_output};
 ghost use Rattle.aptmove.specs.Moving.{check, moved, printed, complained, on_output, on_error, Within};
 
+use arrayvec::ArrayString;
 use rules::Refusal;
+use std::fmt;
 use text::RefusalLine;
 
 fn main(rt: HostRuntime) {
@@ -26,7 +29,9 @@ fn main(rt: HostRuntime) {
             }
         }
         Err(why) => {
-            let _ = eprint!(rt; "{}", RefusalLine(why));
+            if let Ok(line) = bytes(why) {
+                let _ = rt.stderr().write_all(line.as_bytes());
+            }
         }
     }
 }
@@ -40,6 +45,13 @@ fn report(input: &[u8], out: &mut [u8; 4096]) -> Result<u16, Refusal>
     ensures error { on_error result ≡ complained input.now }
 {
     answer(input, out)
+}
+
+// The bytes of the line for a refusal. No such line takes more than 71.
+fn bytes(why: Refusal) -> Result<ArrayString<71>, fmt::Error>
+    ensures { IfOk result (λ text. text.bytes ≡ on_error (Err why)) }
+{
+    text::rendered(RefusalLine(why))
 }
 
 // The same of any slice: the length of the input is looked at first.
