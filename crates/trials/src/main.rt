@@ -11,22 +11,23 @@
 //   down TABLE OUTPUT                     moves a table to version 1, likewise
 // with bytes in hexadecimal (see `bytes_of`) and numbers in decimal. A line that begins with `#` is printed as it is,
 // and an empty one as well.
-// Assumes what crate `text` does of the system's read and write, and that the input is at most 262,144 bytes.
+// Assumes of the system's read that the buffer is given the bytes of standard input, of its write that what is printed is written, and that
+// the input is at most 262,144 bytes.
 #![tactic(auto)]
 
-ghost use Rattle.std.specs.Prelude.{◌≡◌, ◌<◌, length};
+ghost use Rattle.std.specs.Prelude.{◌≡◌, ◌<◌, ◌≤◌, length};
 
 use arrayvec::ArrayVec;
 use rules::Refusal;
 use std::fmt;
-use std::io::Print;
+use std::io::{Print, Read};
 
 // Bytes that are lent to a call. No table, states, words or causes of a trial take more.
 type Bytes = ArrayVec<u8, 4096>;
 
 fn main(rt: HostRuntime) {
     let mut input = input_buffer();
-    let n = text::read_input(&mut rt.stdin(), &mut input).unwrap_or(0);
+    let n = read_full(&mut rt.stdin(), &mut input);
     for line in input[..n].split_inclusive(|&b| b == b'\n') {
         run_line(&rt, line.strip_suffix(b"\n").unwrap_or(line));
     }
@@ -37,6 +38,21 @@ fn input_buffer() -> [u8; 262144]
     ensures { 262144 ≡ length result }
 {
     [0; 262144]
+}
+
+// Reads until the buffer is full, the input ends or a read fails, and answers how many bytes there are: unlike `text::read_input`, what was
+// read before a failure is kept, and its lines are run. `read_to_end` wants a heap, and `read_exact` does not say how many bytes came.
+fn read_full<R: Read>(reader: &mut R, buffer: &mut [u8]) -> usize
+    ensures { result ≤ length buffer.new }
+{
+    let mut n = 0;
+    while n < buffer.len() {
+        match reader.read(&mut buffer[n..]) {
+            Ok(0) | Err(_) => return n,
+            Ok(k) => n += k,
+        }
+    }
+    n
 }
 
 fn run_line<P: Print>(rt: &P, line: &[u8]) {
@@ -71,7 +87,7 @@ fn field(line: &[u8], k: usize) -> &[u8] {
     line.split(|&b| b == b' ').nth(k).unwrap_or(&[])
 }
 
-// The value of a hexadecimal digit, 0 for any other byte.
+// The value of a hexadecimal digit, 0 for any other byte. `char::to_digit` wants a char made of the byte and answers a u32.
 fn digit(b: u8) -> u8
     ensures { result < 16 }
 {
