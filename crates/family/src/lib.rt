@@ -20,7 +20,8 @@ use formulas::{wait_for, waits_for_none};
 use reading::{entry_at, parent_at, word_at};
 use rules::{Body, Orders, PlanEntry, PlanState, is_set};
 
-// What all plans of a step read. What of it must hold, each function asks for.
+// What all plans of a step read. No ghost field says what of it must hold: docs name the functions below, so that they may ask no more than
+// they did, and they ask for different things. `rule` is a number, since the definitions and the C interface speak of every number.
 #[derive(Clone, Copy)]
 pub struct Scene<'a> {
     // the number of the rule, which says what children are lost
@@ -181,8 +182,8 @@ impl<'a> Children<'a> {
     }
 
     // The rank of the child that q, an any-order plan whose named children are the word `named`, activates under a pick: the Ready child
-    // of that rank, else the lowest that is Ready and named, else the lowest that is Ready; with none, a number that no child has as its
-    // rank.
+    // of that rank, else the lowest that is Ready and named, else the lowest that is Ready; with none 64, which no child has as its rank:
+    // no Option, since trailing zeros are the form that document 01 names.
     fn chosen_rank(&self, named: u64, pick: u32) -> u32
         requires { pick < 64 }
         ensures { TellsChosenRank self.now.sets.now self.now.q named pick result }
@@ -198,7 +199,7 @@ impl<'a> Children<'a> {
         ready.trailing_zeros()
     }
 
-    // The rank of the first child that is not done; with none, a number that no child has as its rank.
+    // The rank of the first child that is not done; with none, a number that no child has as its rank: trailing zeros again.
     fn first_not_done(&self, again: bool) -> u32
         ensures { TellsFirstNotDone self.now.sets.now self.now.q again result }
     {
