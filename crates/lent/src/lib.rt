@@ -17,7 +17,8 @@ use reading::{entry_at, parent_at, plan_count, word_at};
 use rules::{Body, PlanEntry, PlanState, Refusal, is_rule, pick_of};
 use table::read_table;
 
-// Checks 17 and 1 to 12 of a call. Where they pass, the buffers hold the table's facts.
+// Checks 17 and 1 to 12 of a call. Where they pass, the buffers hold the table's facts. The rule is the C interface's number, and check 17
+// is about it. No struct of the three buffers: it would be copied about (docs/DECISIONS.md).
 pub fn check_call(
     rule: u32,
     table: &[u8],
@@ -105,6 +106,7 @@ fn lowest_bad_state(table: &[u8], n: usize, states: &[u8]) -> Option<usize>
     if PlanState::REJECTED < states[0] {
         return Some(0);
     }
+    // the marks are the parent's, at another place than p: no iterator over them
     for p in 1..n {
         if PlanState::REJECTED < states[p] {
             return Some(p);
