@@ -18,13 +18,14 @@ use rules::{PlanState, Refusal, is_rule};
 use table::{has_mark, read_table};
 
 // Whether a record can come from the rules under a table, by the rule named: accepted with its number of steps, or refused at the first
-// place.
+// place. The rule is the C interface's number, and check 17 is about it.
 pub fn check(rule: u32, table: &[u8], record: &[u8]) -> Result<u16, Refusal>
     ensures { Judged rule table.now «record».now result }
 {
     if !is_rule(rule) {
         return Err(Refusal::RuleNumber);
     }
+    // no struct of the three buffers: it would be copied about (docs/DECISIONS.md)
     let mut ranks = [0u8; 256];
     let mut counts = [0u8; 256];
     let mut names = [0u64; 512];
@@ -34,7 +35,8 @@ pub fn check(rule: u32, table: &[u8], record: &[u8]) -> Result<u16, Refusal>
 
 // The steps of a record of good form, one after the other, and in each its plans: the first step with a wrong word or with a plan that
 // no picks explain together with the plans before it. Document 01 asks for this form: nested loops over steps and plans, left by a label
-// with the first unexplained step and plan. One lifetime for all, since a scene has one.
+// with the first unexplained step and plan. One lifetime for all, since a scene has one; the scene is put together anew in each step, so
+// that its parts are handed over one by one.
 fn check_steps<'a>(
     rule: u32,
     table: &'a [u8],
