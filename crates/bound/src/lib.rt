@@ -22,6 +22,7 @@ pub fn bound(table: &[u8], words: &[u8]) -> Result<Option<u16>, Refusal>
     ensures answer { result ≡ bound_answer table.now words.now }
     ensures promise { (k : ℕ) → result ≡ Ok (Some k) → RestsWithin table.now words.now k }
 {
+    // no struct of the three buffers: it would be copied about (docs/DECISIONS.md)
     let mut ranks = [0u8; 256];
     let mut counts = [0u8; 256];
     let mut names = [0u64; 512];
