@@ -78,6 +78,7 @@ pub fn lowest_wrong_word(table: &[u8], unused: &[u32], words: &[u8], n: usize) -
 // The picks that explain the states shown, if any do: of each any-order plan the rank of its lowest Ready child that is shown Activated,
 // else of its highest Ready child; 0 where no child is Ready, and off any-order. `kept` has the state in which the child so picked is
 // shown: once that is Activated, the pick stands. Two arrays and not one of pairs, since a step reads the picks as bytes.
+// No `Scene` for what it reads: that borrows the picks, which are written here.
 pub fn find_picks(
     table: &[u8],
     n: usize,
@@ -94,6 +95,7 @@ pub fn find_picks(
 {
     picks[0] = 0;
     kept[0] = PlanState::INACTIVE;
+    // what is written is the parent's too, at another place than p: no iterator
     for p in 1..n {
         picks[p] = 0;
         kept[p] = PlanState::INACTIVE;
