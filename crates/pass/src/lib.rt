@@ -31,6 +31,7 @@ pub fn advance(scene: &Scene, new: &mut [u8])
 {
     // its own copy, which no write to `new` can change: so the compiler reads its fields once, and not again for each plan
     let scene = *scene;
+    // `new` is read by the move while it is written: no iterator over it
     for p in 0..scene.n {
         new[p] = u8::from(next_state(&scene, new, p));
     }
