@@ -22,7 +22,8 @@ use reading::plan_count;
 use rules::Refusal;
 
 // One synchronous step over the states, by a rule, with the causes of all plans' moves; or a refusal that changes no state and no cause.
-// Its work space is cleared in each call: a small tree does not pay for a large one.
+// Its work space is cleared in each call: a small tree does not pay for a large one. The rule is the C interface's number, and check 17 is
+// about it.
 pub fn step(
     rule: u32,
     table: &[u8],
@@ -61,6 +62,7 @@ pub fn rest(
     ensures told { causes.new ≡ run_causes rule table.now states.old words.now
         causes.old budget }
 {
+    // no struct of the three buffers: it would be copied about (docs/DECISIONS.md)
     let mut ranks = [0u8; 256];
     let mut counts = [0u8; 256];
     let mut names = [0u64; 512];
@@ -105,6 +107,7 @@ fn step_in<const PLANS: usize, const NAMES: usize, const SETS: usize>(
     ensures told { causes.new ≡ step_causes rule table.now states.old words.now
         causes.old }
 {
+    // nor here
     let mut ranks = [0u8; PLANS];
     let mut counts = [0u8; PLANS];
     let mut names = [0u64; NAMES];
@@ -186,7 +189,8 @@ fn take_step(table: &[u8], words: &[u8], new: &[u8], states: &mut [u8], causes: 
     take_over(new, states);
 }
 
-// Steps by a rule over states that have passed the checks, until one more step changes nothing or the budget is used.
+// Steps by a rule over states that have passed the checks, until one more step changes nothing or the budget is used. It is handed them one
+// by one, as `step_over`.
 fn settle(
     rule: u32,
     table: &[u8],
