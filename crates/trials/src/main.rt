@@ -87,16 +87,11 @@ fn field(line: &[u8], k: usize) -> &[u8] {
     line.split(|&b| b == b' ').nth(k).unwrap_or(&[])
 }
 
-// The value of a hexadecimal digit, 0 for any other byte. `char::to_digit` wants a char made of the byte and answers a u32.
-fn digit(b: u8) -> u8
+// The value of a hexadecimal digit, 0 for any other byte.
+fn digit(b: u8) -> u32
     ensures { result < 16 }
 {
-    match b {
-        b'0'..=b'9' => b - b'0',
-        b'a'..=b'f' => b - b'a' + 10,
-        b'A'..=b'F' => b - b'A' + 10,
-        _ => 0,
-    }
+    char::from(b).to_digit(16).unwrap_or(0)
 }
 
 // The bytes of a hexadecimal text, as far as there is room. Groups are parted by dots, and one that ends in `*` and a number stands so many
@@ -116,16 +111,14 @@ fn bytes_of<const N: usize>(text: &[u8]) -> ArrayVec<u8, N> {
 
 fn add_bytes<const N: usize>(text: &[u8], bytes: &mut ArrayVec<u8, N>) {
     for pair in text.chunks_exact(2) {
-        let _ = bytes.try_push(digit(pair[0]) * 16 + digit(pair[1]));
+        let _ = bytes.try_push((digit(pair[0]) * 16 + digit(pair[1])) as u8);
     }
 }
 
 // The number that a decimal text says, the last 32 bits of it; a byte that is no digit counts as 0.
 fn number_of(text: &[u8]) -> u32 {
-    text.iter().fold(
-        0,
-        |n, &b| n.wrapping_mul(10).wrapping_add(u32::from(digit(b))),
-    )
+    text.iter()
+        .fold(0, |n, &b| n.wrapping_mul(10).wrapping_add(digit(b)))
 }
 
 fn run_table<P: Print>(rt: &P, line: &[u8]) {
