@@ -1,6 +1,7 @@
 // The step, the run to rest, the figure for it, the checker, the moves of tables and what makes a word's pattern bits, for a tablet's host
 // program written in C, on numbers and slices; include/asbru.h declares them. An answer is one 64-bit number, which `Packed` in specs/ lays
 // out. Nothing is allocated. Assumes nothing.
+// Exports of one kind stay apart, with numbers, flat slices and packed answers: include/asbru.h has their names and types.
 #![tactic(auto)]
 
 ghost use Rattle.std.specs.Prelude.{ℕ, ◌≡◌, ◌<◌, ◌≤◌, cond, MatchOption, MatchResult};
@@ -157,7 +158,8 @@ pub extern "C" fn asbru_with_pattern(word: u32, condition: u32, answer: u64) -> 
     }
 }
 
-// The pattern that a number stands for: a condition by its bit, and 6 for if-then-else; no higher number does for one.
+// The pattern that a number stands for: a condition by its bit, and 6 for if-then-else; no higher number does for one. No
+// `TryFrom<u32> for Pattern`: it would have to stand in `rules`, and None is all there is to tell of a higher one.
 fn pattern_of(condition: u32) -> Option<Pattern>
     ensures { MatchOption result (6 < condition) (λ p. (condition ≤ 6) × (p ≡ pattern_of condition)) }
 {
@@ -173,7 +175,8 @@ fn pattern_of(condition: u32) -> Option<Pattern>
     }
 }
 
-// The word with what is known of the pattern in its bits: satisfied and, where the word can say so, satisfiable.
+// The word with what is known of the pattern in its bits: satisfied and, where the word can say so, satisfiable. The two stay bools, as in
+// `with_pattern` and `with_bits` of specs/: a struct of them would be made once, to be opened at once.
 fn put(pattern: Pattern, satisfied: bool, satisfiable: bool, word: u32) -> u32
     ensures { result ≡ with_pattern pattern satisfied satisfiable word }
 {
@@ -228,7 +231,7 @@ fn told<T, F: FnOnce(T) -> u64>(answer: Result<T, Refusal>, of_ok: F) -> u64
     }
 }
 
-// A number, a step and a plan in one.
+// A number, a step and a plan in one. It takes no `Place`: most who call have a figure or a flag to tell, which is no place.
 fn pack(number: u8, step: u16, plan: u16) -> u64
     ensures { result ≡ packed number step plan }
 {
