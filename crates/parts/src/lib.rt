@@ -59,8 +59,8 @@ pub fn find_unused(table: &[u8], n: usize, unused: &mut [u32])
     ensures found { Unused table.now n unused.new }
     ensures rest { Beyond n unused.old unused.new }
 {
-    for p in 0..n {
-        unused[p] = unused_bits(entry_at(table, p).body_kind());
+    for (p, bits) in unused[..n].iter_mut().enumerate() {
+        *bits = unused_bits(entry_at(table, p).body_kind());
     }
 }
 
