@@ -43,8 +43,8 @@ pub fn take_picks(words: &[u8], n: usize, picks: &mut [u8])
     ensures taken { Taken words.now n picks.new }
     ensures rest { Beyond n picks.old picks.new }
 {
-    for p in 0..n {
-        picks[p] = pick_of(word_at(words, p)) as u8;
+    for (p, pick) in picks[..n].iter_mut().enumerate() {
+        *pick = pick_of(word_at(words, p)) as u8;
     }
 }
 
