@@ -1,15 +1,12 @@
--- How long an input's table is, what the verdict on its two parts answers, and what is written for one that is accepted. Assumes nothing.
-use Rattle.std.proofs.Common.{◌≡◌, ℕ, ◌-◌, ◌^◌, ◌<◌, ◌≤◌, List, ◌++◌, length, take, drop, Bool, true, false, cond, leb, min, Ok, Err, append_assoc, arith, refl}
+-- How long an input's table is, and what the verdict on its two parts answers. Assumes nothing.
+use Rattle.std.proofs.Common.{◌≡◌, ℕ, ◌-◌, ◌<◌, ◌≤◌, List, length, take, drop, Bool, true, false, cond, leb, min, Err, arith, refl}
 use borrow.Author.Tests.{leb-true, leb-false}
 use borrow.Author.Rules.{part_to_end}
-use Rattle.std.specs.Fmt as std
-use Rattle.rules.specs.Bytes.{text}
 use Rattle.rules.specs.WaitFor.{table_size}
 use Rattle.rules.specs.Answers.{header_check, Judged, Verdict, Done}
-use Rattle.rules.specs.Program.{table_length, Answered, too_long, judged, line}
+use Rattle.rules.specs.Program.{table_length, Answered, too_long, judged}
 use Rattle.rules.specs.declared.Refusal.{Refusal}
 use Rattle.rules.specs.declared.Refusal.TheVariants.{InputLong}
-use Rattle.text.proofs.Decimals.{written}
 
 module _ (input : List ℕ) where
   pub all_of_refused : (why : Refusal) → header_check input ≡ Err why → table_length input ≡ length input
@@ -33,8 +30,3 @@ module _ (input : List ℕ) where
       → Judged 2 (take k input) (take (length input - k) (drop k input)) v
       → Answered input v
   answers k e l j = judged l (rw (part_to_end input k, e) at j)
-
-pub accepted :
-    (n steps : ℕ) (v : Verdict) → v ≡ Ok steps → n < 2 ^ 64 → steps < 2 ^ 64
-    → text "accepted " ++ (std.decimal n ++ (text " " ++ (std.decimal steps ++ text "\n"))) ≡ line n v
-accepted n steps v is l m = rw (is, written n l, written steps m) (simp append_assoc)

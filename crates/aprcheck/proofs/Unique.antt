@@ -1,8 +1,7 @@
--- One answer: any two lines that the contract of `report` permits are printed alike, and any two verdicts that the contract of `answer`
+-- One answer: any two lines that the contract of `report` permits have the same bytes, and any two verdicts that the contract of `answer`
 -- permits are equal, the contract being as Rattle reads it. Assumes nothing.
 use mathlib.Core.Path.{◌≡◌}
 use contract.Lifetimes.{Lfts}
-use Rattle.rules.specs.Program.{line}
 use Rattle.rules.proofs.Unique.{OneAnswer}
 use Rattle.demands.proofs.Unique.{answered_once, printed_once}
 use Rattle.aprcheck.proofs.answer.Reads as answer
@@ -12,6 +11,5 @@ pub answer_once : OneAnswer answer.Post
 answer_once = record { once = λ κs a z z' e e' h h'. answered_once a.0.now h h' }
 
 pub report_once :
-    (κs : Lfts 1) (a : _) (z z' : _) (e e' : _) → report.Post κs a z e → report.Post κs a z' e'
-    → line z.plans z.verdict ≡ line z'.plans z'.verdict
+    (κs : Lfts 1) (a : _) (z z' : _) (e e' : _) → report.Post κs a z e → report.Post κs a z' e' → z.items ≡ z'.items
 report_once κs a z z' e e' h h' = printed_once a.0.now _ _ h h'

@@ -1,18 +1,17 @@
 // The program `aprcheck` of document 01: a table and then a record on standard input, one line on standard output.
-// `report` is the whole of it on a slice: its contract says that the line is that of a verdict which the definitions permit. `bytes` are
-// those of the line, which `main` hands over in one write.
-// Where standard input cannot be read to its end there is no input, and so no line: `main` says so on standard error.
-// Assumes what crate `text` does of the system's read and write.
+// `report` is the whole of it on a slice: its contract says that the bytes are the line of a verdict which the definitions permit; `main`
+// hands them over in one write. Where standard input cannot be read to its end there is no input, and so no line: `main` says so on
+// standard error. Assumes what crate `text` does of the system's read and write.
 #![tactic(auto)]
 
-ghost use Rattle.std.specs.Prelude.{◌≡◌, ◌≤◌, length, Some, Ok, Err, IfOk};
+ghost use Rattle.std.specs.Prelude.{◌≡◌, ◌+◌, ◌++◌, ◌≤◌, length};
+ghost use Rattle.arrayvec.specs.ArrayVec.{array_vec_len};
 ghost use Rattle.rules.specs.Table.{plan_count};
 ghost use Rattle.rules.specs.Program.{table_length, Answered, line, Printed};
 
-use arrayvec::ArrayString;
+use arrayvec::ArrayVec;
 use rules::Refusal;
-use std::fmt;
-use text::RefusalLine;
+use text::{put, put_decimal, put_refusal};
 
 fn main(rt: HostRuntime) {
     let mut input = text::buffer();
@@ -20,50 +19,35 @@ fn main(rt: HostRuntime) {
         let _ = eprintln!(rt; "aprcheck: standard input cannot be read; nothing is judged");
         return;
     };
-    let Ok(text) = bytes(&input[..n]) else {
+    if rt.stdout().write_all(&report(&input[..n])).is_err() {
         let _ = eprintln!(rt; "aprcheck: standard output cannot be written");
-        return;
-    };
-    if rt.stdout().write_all(text.as_bytes()).is_err() {
-        let _ = eprintln!(rt; "aprcheck: standard output cannot be written");
-    }
-}
-
-// The line for a verdict on a table of so many plans.
-#[derive(Clone, Copy)]
-struct Line {
-    plans: u16,
-    verdict: Result<u16, Refusal>,
-}
-
-impl fmt::Display for Line {
-    ghost output = { λ l. Some (line l.plans l.verdict) };
-
-    #[tactic(auto, using(crate::proofs::Inputs::accepted))]
-    fn fmt<W: fmt::Write>(&self, f: &mut fmt::Formatter<W>) -> fmt::Result {
-        let plans = self.plans;
-        match self.verdict {
-            Ok(steps) => writeln!(f, "accepted {plans} {steps}"),
-            Err(why) => write!(f, "{}", RefusalLine(why)),
-        }
     }
 }
 
 // The line for an input.
-fn report(input: &[u8]) -> Line
-    ensures { Printed input.now (line result.plans result.verdict) }
+fn report(input: &[u8]) -> ArrayVec<u8, 128>
+    ensures { Printed input.now result.items }
 {
-    Line {
-        plans: plan_count(input),
-        verdict: answer(input),
-    }
+    let mut out = ArrayVec::new();
+    put_line(plan_count(input), answer(input), &mut out);
+    out
 }
 
-// The bytes of that line. No line takes more than 128.
-fn bytes(input: &[u8]) -> Result<ArrayString<128>, fmt::Error>
-    ensures { IfOk result (λ text. Printed input.now text.bytes) }
+// Puts the line for a verdict on a table of so many plans.
+fn put_line<const N: usize>(plans: u16, verdict: Result<u16, Refusal>, out: &mut ArrayVec<u8, N>)
+    requires { array_vec_len out.old + 128 ≤ N }
+    ensures { out.new.items ≡ out.old.items ++ line plans verdict }
 {
-    text::rendered(report(input))
+    match verdict {
+        Ok(steps) => {
+            put(b"accepted ", out);
+            put_decimal(u64::from(plans), out);
+            out.push(b' ');
+            put_decimal(u64::from(steps), out);
+            out.push(b'\n');
+        }
+        Err(why) => put_refusal(why, out),
+    }
 }
 
 // The verdict on an input, under rule 2: its length is looked at first.

@@ -1,5 +1,5 @@
--- One answer: any two that the contract of `report` permits for an input are printed alike, the contract being as Rattle reads it. Assumes
--- nothing.
+-- One answer: any two that the contract of `report` permits for an input have the same bytes, the contract being as Rattle reads it.
+-- Assumes nothing.
 use Rattle.std.proofs.Common.{◌≡◌, ℕ, List, Result, Ok, sym, ap, ◌∙◌, subst, refl, arith}
 use contract.Lifetimes.{Lfts}
 use Rattle.rules.specs.Answers.{Outcome}
@@ -10,7 +10,7 @@ use Rattle.printing.specs.Printing.{wrong_text, answer_text}
 use Rattle.statements.specs.declared.Fault.{Fault}
 use Rattle.printing.specs.declared.Wrong.{Wrong}
 use Rattle.aptime.specs.Lines.{Said, wrong}
-use Rattle.aptime.specs.Printed.{response_text, Answered, Printed, too_long, faulty, answered}
+use Rattle.aptime.specs.Printed.{Answered, Printed, too_long, faulty, answered}
 use Rattle.aptime.specs.declared.Question.{Question}
 use Rattle.aptime.proofs.report.Reads as report
 
@@ -57,5 +57,5 @@ printed_once (answered l s a) (faulty l' s' e') = absurd (never s' s)
 printed_once (answered l s a) (answered l' s' a') = told_once (sym s ∙ s') a a'
 
 pub report_once :
-    (κs : Lfts 1) (a : _) (z z' : _) (e e' : _) → report.Post κs a z e → report.Post κs a z' e' → response_text z ≡ response_text z'
+    (κs : Lfts 1) (a : _) (z z' : _) (e e' : _) → report.Post κs a z e → report.Post κs a z' e' → z.items ≡ z'.items
 report_once κs a z z' e e' h h' = printed_once h h'

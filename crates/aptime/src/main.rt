@@ -1,21 +1,20 @@
 // The program `aptime`: a time annotation and a history in words on standard input; on standard output whether the history satisfies the
-// annotation or still can, and the annotation's normal form. `report` is the whole of it on a slice, and `bytes` those of its answer, which
-// `main` hands over in one write: their contracts fix every byte. Where standard input cannot be read to its end there is no input, and so no answer: `main` says so on standard
-// error. Assumes what crate `text` does of the system's read and write.
+// annotation or still can, and the annotation's normal form. `report` is the whole of it on a slice: its contract fixes every byte, and
+// `main` hands them over in one write. Where standard input cannot be read to its end there is no input, and so no answer: `main` says so on
+// standard error. Assumes what crate `text` does of the system's read and write.
 #![tactic(auto)]
 
-ghost use Rattle.std.specs.Prelude.{◌≡◌, ◌+◌, ◌<◌, ◌≤◌, ◌∷◌, [], ◌++◌, length, Some, IfOk, MatchOption};
+ghost use Rattle.std.specs.Prelude.{◌≡◌, ◌+◌, ◌<◌, ◌≤◌, ◌∷◌, [], ◌++◌, length, MatchOption};
 ghost use Rattle.arrayvec.specs.ArrayVec.{array_vec_len};
 ghost use Rattle.aptime.specs.Lines as Lines;
 ghost use Rattle.aptime.specs.Printed as Printed;
 ghost use Rattle.aptime.specs.Steps as Steps;
 
-use arrayvec::{ArrayString, ArrayVec};
+use arrayvec::ArrayVec;
 use printing::{Answer, Wrong};
 use rules::Refusal;
 use statements::{Fault, OPEN, Pair, Saying, Single};
-use std::fmt;
-use text::RefusalLine;
+use text::put_refusal;
 
 fn main(rt: HostRuntime) {
     let mut input = text::buffer();
@@ -23,13 +22,18 @@ fn main(rt: HostRuntime) {
         let _ = eprintln!(rt; "aptime: standard input cannot be read; nothing is answered");
         return;
     };
-    let Ok(text) = bytes(&input[..n]) else {
-        let _ = eprintln!(rt; "aptime: standard output cannot be written");
-        return;
-    };
-    if rt.stdout().write_all(text.as_bytes()).is_err() {
+    if rt.stdout().write_all(&report(&input[..n])).is_err() {
         let _ = eprintln!(rt; "aptime: standard output cannot be written");
     }
+}
+
+// The bytes of the answer to an input.
+fn report(input: &[u8]) -> ArrayVec<u8, 512>
+    ensures { Printed.Printed input.now result.items }
+{
+    let mut out = ArrayVec::new();
+    respond(input).put(&mut out);
+    out
 }
 
 // What an input is answered.
@@ -40,20 +44,22 @@ enum Response {
     Answered(Answer),
 }
 
-impl fmt::Display for Response {
-    ghost output = { λ r. Some (Printed.response_text r) };
-
-    fn fmt<W: fmt::Write>(&self, f: &mut fmt::Formatter<W>) -> fmt::Result {
-        match *self {
-            Response::Refused(why) => write!(f, "{}", RefusalLine(why)),
-            Response::Wrong(wrong) => write!(f, "{wrong}"),
-            Response::Answered(answer) => write!(f, "{answer}"),
+impl Response {
+    // Puts it.
+    fn put<const N: usize>(self, out: &mut ArrayVec<u8, N>)
+        requires { array_vec_len out.old + 512 ≤ N }
+        ensures { out.new.items ≡ out.old.items ++ Printed.response_text self }
+    {
+        match self {
+            Response::Refused(why) => put_refusal(why, out),
+            Response::Wrong(wrong) => wrong.put(out),
+            Response::Answered(answer) => answer.put(out),
         }
     }
 }
 
 // The answer to an input.
-fn report(input: &[u8]) -> Response
+fn respond(input: &[u8]) -> Response
     ensures { Printed.Printed input.now (Printed.response_text result) }
 {
     if 65536 < input.len() {
@@ -64,13 +70,6 @@ fn report(input: &[u8]) -> Response
         Ok(question) => answer(question, &samples),
         Err(wrong) => Response::Wrong(wrong),
     }
-}
-
-// The bytes of that answer. No answer takes more than 512.
-fn bytes(input: &[u8]) -> Result<ArrayString<512>, fmt::Error>
-    ensures { IfOk result (λ text. Printed.Printed input.now text.bytes) }
-{
-    text::rendered(report(input))
 }
 
 // The answer to what was told.

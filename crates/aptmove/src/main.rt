@@ -5,15 +5,14 @@
 // system's read and write.
 #![tactic(auto)]
 
-ghost use Rattle.std.specs.Prelude.{◌≡◌, ◌≤◌, length, Err, IfOk};
+ghost use Rattle.std.specs.Prelude.{◌≡◌, ◌≤◌, length, Err};
 ghost use Rattle.rules.specs.WaitFor.{first_version};
 ghost use Rattle.versions.specs.Versions.{move_answer, move_output};
 ghost use Rattle.aptmove.specs.Moving.{check, moved, printed, complained, on_output, on_error, Within};
 
-use arrayvec::ArrayString;
+use arrayvec::ArrayVec;
 use rules::Refusal;
-use std::fmt;
-use text::RefusalLine;
+use text::put_refusal;
 
 fn main(rt: HostRuntime) {
     let mut input = text::buffer();
@@ -29,9 +28,7 @@ fn main(rt: HostRuntime) {
             }
         }
         Err(why) => {
-            if let Ok(line) = bytes(why) {
-                let _ = rt.stderr().write_all(line.as_bytes());
-            }
+            let _ = rt.stderr().write_all(&bytes(why));
         }
     }
 }
@@ -47,11 +44,13 @@ fn report(input: &[u8], out: &mut [u8; 4096]) -> Result<u16, Refusal>
     answer(input, out)
 }
 
-// The bytes of the line for a refusal. No such line takes more than 71.
-fn bytes(why: Refusal) -> Result<ArrayString<71>, fmt::Error>
-    ensures { IfOk result (λ text. text.bytes ≡ on_error (Err why)) }
+// The bytes of the line for a refusal.
+fn bytes(why: Refusal) -> ArrayVec<u8, 71>
+    ensures { result.items ≡ on_error (Err why) }
 {
-    text::rendered(RefusalLine(why))
+    let mut out = ArrayVec::new();
+    put_refusal(why, &mut out);
+    out
 }
 
 // The same of any slice: the length of the input is looked at first.

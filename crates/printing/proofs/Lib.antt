@@ -1,2 +1,2 @@
--- Laws for the proofs of this crate.
-pub mod Numbers
+-- Laws of this crate: that its answers are one.
+pub mod Unique

@@ -1,43 +1,37 @@
--- The digits that std writes of a number are document 01's decimal. Assumes nothing.
-use Rattle.std.proofs.Common.{◌≡◌, ℕ, zero, suc, ◌+◌, ◌/◌, ◌%◌, ◌^◌, ◌<◌, ◌≤◌, List, [], ◌∷◌, ◌++◌, length, refl, sym, ap, add-one, append_assoc, arith, subst}
+-- The fewest digits of a number, as the kit spells them, are document 01's decimal. Assumes nothing.
+use Prim.Native.Nat.{ℕ, zero, suc, ◌+◌, ◌/◌, ◌%◌, ◌^◌, ◌≤◌, ◌<◌}
+use native.Mathlib.Nat.{pow-suc, one-le-pow}
+use native.Mathlib.Numerals.{unary_clauses}
+use native.Mathlib.Omega.{arith}
+use mathlib.Core.Path.{◌≡◌, ap}
+use mathlib.Core.List.{[], ◌∷◌}
 use borrow.Author.Tests.{lt-ltb, le-ltb}
-use Rattle.std.specs.Fmt as std
-use Rattle.std.proofs.lemmas.Fmt.{decimal_from_appends, length-decimal-le_succ}
-use Rattle.std.specs.Prelude.{Err}
-use Rattle.rules.specs.Bytes.{text}
-use Rattle.rules.specs.Answers.{place}
-use Rattle.rules.specs.Program.{decimal_to, decimal, line}
-use Rattle.rules.specs.declared.Place.{Place}
-use Rattle.rules.specs.declared.Refusal.{Refusal}
+use Rattle.io.specs.Digits.{hex_digit_ascii, last_digits, IsDigitCount}
+use Rattle.rules.specs.Program.{decimal_to, decimal}
 
--- the decimal, as a spelling that puts the last digit behind the others
-spelled : ℕ → ℕ → List ℕ
-spelled zero n = []
-spelled (suc k) n = decimal_to k n
+-- the glyph of a last digit
+last : (x : ℕ) → hex_digit_ascii (x % 10) ≡ 48 + x % 10
+last x = rw (lt-ltb (x % 10) 10 (omega arith))
 
-last : (n : ℕ) → n < 10 → 48 + n % 10 ≡ 48 + n
-last n l = omega arith
+-- ten to any power but 0
+ten : (k : ℕ) → 10 ≤ 10 ^ suc k
+ten k = omega (arith, pow-suc 10 k, one-le-pow k 10 (omega arith))
 
-one : (k n : ℕ) → n < 10 → spelled (suc k) n ≡ (48 + n) ∷ []
-unfolding spelled decimal_to
-one zero n l = ap (λ (d : ℕ). d ∷ []) (last n l)
-one (suc k) n l = rw (lt-ltb n 10 l) (ap (λ (d : ℕ). d ∷ []) (last n l))
+-- k + 1 digits that are the fewest: one digit exactly where the definition stops
+spelled :
+    (fuel k x : ℕ) → x ≤ fuel → x < 10 ^ suc k → (0 < k → 10 ^ k ≤ x)
+    → last_digits 10 (suc k) x ≡ decimal_to fuel x
+unfolding decimal_to
+spelled zero zero x f u l = ap (λ (d : ℕ). d ∷ []) (last x)
+spelled zero (suc k) x f u l = absurd (omega (arith, ten k, l (omega arith)))
+spelled (suc fuel) zero x f u l = rw (lt-ltb x 10 (omega (arith, u))) (ap (λ (d : ℕ). d ∷ []) (last x))
+spelled (suc fuel) (suc k) x f u l =
+    let more = l (omega arith) in
+    let rest =
+    spelled fuel k (x / 10) (omega (arith, ten k)) (omega (arith, pow-suc 10 (suc k))) (λ h. omega (arith, pow-suc 10 k)) in
+    rw (le-ltb x 10 (omega (arith, ten k))) (cc (rest, last x))
 
-more : (k n : ℕ) → 10 ≤ n → spelled (suc k) n ≡ spelled k (n / 10) ++ ((48 + n % 10) ∷ [])
-unfolding spelled decimal_to
-more zero n l = refl
-more (suc k) n l = rw (le-ltb n 10 l) refl
-
-pub written : (x : ℕ) → x < 2 ^ 64 → std.decimal x ≡ decimal x
-unfolding spelled
-written x l =
-    sym
-    (decimal_from_appends spelled record { one = one; more = more } (suc x) x l
-    (subst (λ (k : ℕ). length (std.decimal x) ≤ k) (add-one x) (length-decimal-le_succ x l)))
-
--- so the pieces that are written for a refusal are its line
-pub refused :
-    (why : Refusal) (p : Place) → p ≡ place why → p.number < 2 ^ 64 → p.step < 2 ^ 64 → p.plan < 2 ^ 64
-    → text "refused " ++ (std.decimal p.number ++ (text " " ++ (std.decimal p.step ++ (text " " ++ (std.decimal p.plan ++ text "\n")))))
-    ≡ line 0 (Err why)
-refused why p is l m n = rw (written p.number l, written p.step m, written p.plan n, is) (simp append_assoc)
+-- what the kit's `decimal` ensures of a number's digits
+pub spells : (k x : ℕ) → IsDigitCount 10 1 x k → last_digits 10 k x ≡ decimal x
+spells zero x f = absurd (omega (arith, f.0))
+spells (suc k) x f = spelled x k x (omega arith) f.1 (λ h. simp unary_clauses at (f.2 (omega arith)))

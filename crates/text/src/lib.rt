@@ -1,18 +1,18 @@
-// What the programs share: reading an input into a buffer, the line for a refusal, and the bytes of what is printed, which the programs
-// hand over in one write. Who calls hands over the reader: the programs take standard input. Assumes what no contract can speak of, of the
-// system's read: that the buffer is given the bytes of standard input, and that a read which fails is answered by an error; of its write
-// that what is handed over is written; and of std's `Display`, whose contract does not say when it fails, that it does not where there is
-// room, so that the lines do get out: where it fails nothing of them does.
+// What the programs share: reading an input into a buffer, and putting text behind what stands in a vector of fixed room. Each function on
+// vectors says every byte that it puts. Who calls hands over the reader: the programs take standard input. Assumes what no contract can
+// speak of, of the system's read: that the buffer is given the bytes of standard input, and that a read which fails is answered by an error;
+// and of its write that what is handed over is written. Text is put by hand and not by `Display`, whose contract says nothing of when it
+// fails: no caller could be promised that the text is there.
 #![tactic(auto)]
 
-ghost use Rattle.std.specs.Prelude.{◌≡◌, ◌<◌, length, take, Some, Err, IfOk, IfSome};
+ghost use Rattle.std.specs.Prelude.{◌≡◌, ◌<◌, ◌≤◌, ◌+◌, ◌++◌, length, take, Err, IfOk};
 ghost use Rattle.std.specs.Io.{ReadsAtMost};
 ghost use Rattle.std.specs.Io.KnownBytes.{Consumes, IsAtEnd};
-ghost use Rattle.rules.specs.Program.{line};
+ghost use Rattle.arrayvec.specs.ArrayVec.{array_vec_len};
+ghost use Rattle.rules.specs.Program.{decimal, line};
 
-use arrayvec::ArrayString;
+use arrayvec::ArrayVec;
 use rules::Refusal;
-use std::fmt::{self, Write};
 use std::io::{Error, Read};
 
 // Reads an input to its end, or as far as the buffer has room. A read that fails is not the end of the input.
@@ -40,27 +40,38 @@ pub fn buffer() -> [u8; 65537]
     [0; 65537]
 }
 
-// The bytes of a value, as its `Display` says them, in room of a fixed size.
-pub fn rendered<T: fmt::Display + Drop, const N: usize>(
-    value: T,
-) -> Result<ArrayString<N>, fmt::Error>
-    ensures { IfOk result (λ text. IfSome (T.output value) (λ bytes. text.bytes ≡ bytes)) }
+// Puts a piece behind what is there.
+pub fn put<const N: usize>(piece: &[u8], out: &mut ArrayVec<u8, N>)
+    requires { array_vec_len out.old + length piece.now ≤ N }
+    ensures items { out.new.items ≡ out.old.items ++ piece.now }
+    ensures len { array_vec_len out.new ≡ array_vec_len out.old + length piece.now }
 {
-    let mut text = ArrayString::new();
-    text.write(value)?;
-    Ok(text)
+    out.try_extend_from_slice(piece).unwrap();
 }
 
-// The line for a refusal. No plan count shows in it.
-#[derive(Clone, Copy)]
-pub struct RefusalLine(pub Refusal);
+// Puts a number in decimal there. The kit spells it in a buffer of its own.
+pub fn put_decimal<const N: usize>(x: u64, out: &mut ArrayVec<u8, N>)
+    requires { array_vec_len out.old + 20 ≤ N }
+    ensures items { out.new.items ≡ out.old.items ++ decimal x }
+    ensures room { array_vec_len out.new ≤ array_vec_len out.old + 20 }
+{
+    let mut digits = [0u8; 20];
+    let k = io::decimal(x, &mut digits);
+    put(&digits[..k], out);
+}
 
-impl fmt::Display for RefusalLine {
-    ghost output = { λ l. Some (line 0 (Err l.0)) };
-
-    #[tactic(auto, using(crate::proofs::Decimals::refused))]
-    fn fmt<W: Write>(&self, f: &mut fmt::Formatter<W>) -> fmt::Result {
-        let place = places::place(self.0);
-        writeln!(f, "refused {} {} {}", place.number, place.step, place.plan)
-    }
+// Puts the line for a refusal there. No plan count shows in it.
+pub fn put_refusal<const N: usize>(why: Refusal, out: &mut ArrayVec<u8, N>)
+    requires { array_vec_len out.old + 71 ≤ N }
+    ensures items { out.new.items ≡ out.old.items ++ line 0 (Err why) }
+    ensures room { array_vec_len out.new ≤ array_vec_len out.old + 71 }
+{
+    let place = places::place(why);
+    put(b"refused ", out);
+    put_decimal(u64::from(place.number), out);
+    out.push(b' ');
+    put_decimal(u64::from(place.step), out);
+    out.push(b' ');
+    put_decimal(u64::from(place.plan), out);
+    out.push(b'\n');
 }
