@@ -7,6 +7,8 @@ ghost use Rattle.std.specs.Prelude.{◌≡◌, [], ◌∷◌, ◌+◌, ◌++◌,
 ghost use Rattle.arrayvec.specs.ArrayVec.{array_vec_len};
 ghost use Rattle.printing.specs.Printing as Printing;
 
+pub mod in_slice;
+
 use arrayvec::ArrayVec;
 use rules::Refusal;
 use statements::{Fault, OPEN};
@@ -24,7 +26,8 @@ impl Wrong {
     // Puts what is said of it.
     pub fn put<const N: usize>(self, out: &mut ArrayVec<u8, N>)
         requires { array_vec_len out.old + 512 ≤ N }
-        ensures { out.new.items ≡ out.old.items ++ Printing.wrong_text self.line self.fault }
+        ensures items { out.new.items ≡ out.old.items ++ Printing.wrong_text self.line self.fault }
+        ensures room { array_vec_len out.new ≤ array_vec_len out.old + 512 }
     {
         put(b"line ", out);
         put_decimal(self.line as u64, out);
@@ -61,7 +64,8 @@ impl Answer {
     // Puts it.
     pub fn put<const N: usize>(self, out: &mut ArrayVec<u8, N>)
         requires { array_vec_len out.old + 512 ≤ N }
-        ensures { out.new.items ≡ out.old.items ++ (Printing.judged_text self.judgement ++ Printing.form_text self.normal) }
+        ensures items { out.new.items ≡ out.old.items ++ (Printing.judged_text self.judgement ++ Printing.form_text self.normal) }
+        ensures room { array_vec_len out.new ≤ array_vec_len out.old + 512 }
     {
         put_judged(self.judgement, out);
         put_form(self.normal, out);
@@ -96,8 +100,9 @@ fn put_satisfied<const N: usize>(first: u64, last: u64, out: &mut ArrayVec<u8, N
 
 // Puts what normalising came to.
 fn put_form<const N: usize>(normal: Result<[u64; 7], Refusal>, out: &mut ArrayVec<u8, N>)
-    requires { array_vec_len out.old + 220 ≤ N }
-    ensures { out.new.items ≡ out.old.items ++ Printing.form_text normal }
+    requires { array_vec_len out.old + 200 ≤ N }
+    ensures items { out.new.items ≡ out.old.items ++ Printing.form_text normal }
+    ensures room { array_vec_len out.new ≤ array_vec_len out.old + 200 }
 {
     match normal {
         Ok(numbers) => put_normal(numbers, out),
@@ -110,8 +115,9 @@ fn put_form<const N: usize>(normal: Result<[u64; 7], Refusal>, out: &mut ArrayVe
 
 // Puts an annotation, in the words of the input.
 fn put_normal<const N: usize>(numbers: [u64; 7], out: &mut ArrayVec<u8, N>)
-    requires { array_vec_len out.old + 220 ≤ N }
-    ensures { out.new.items ≡ out.old.items ++ Printing.normal_text numbers }
+    requires { array_vec_len out.old + 200 ≤ N }
+    ensures items { out.new.items ≡ out.old.items ++ Printing.normal_text numbers }
+    ensures room { array_vec_len out.new ≤ array_vec_len out.old + 200 }
 {
     put(b"normal form:\n", out);
     put_shifts(numbers, out);
@@ -133,7 +139,8 @@ fn put_shifts<const N: usize>(numbers: [u64; 7], out: &mut ArrayVec<u8, N>)
 #[tactic(auto, unfolding(crate::specs::Printing::durations_text))]
 fn put_durations<const N: usize>(numbers: [u64; 7], out: &mut ArrayVec<u8, N>)
     requires { array_vec_len out.old + 80 ≤ N }
-    ensures { out.new.items ≡ out.old.items ++ Printing.durations_text numbers }
+    ensures items { out.new.items ≡ out.old.items ++ Printing.durations_text numbers }
+    ensures room { array_vec_len out.new ≤ array_vec_len out.old + 80 }
 {
     put_bounds(b"lasts ", numbers[4], numbers[5], out);
     put(b"from ", out);

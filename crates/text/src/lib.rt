@@ -10,6 +10,9 @@ ghost use Rattle.std.specs.Io.{ReadsAtMost};
 ghost use Rattle.std.specs.Io.KnownBytes.{Consumes, IsAtEnd};
 ghost use Rattle.arrayvec.specs.ArrayVec.{array_vec_len};
 ghost use Rattle.rules.specs.Program.{decimal, line};
+ghost use Rattle.text.specs.Came.{came};
+
+pub mod in_slice;
 
 use arrayvec::ArrayVec;
 use rules::Refusal;
@@ -25,12 +28,24 @@ pub fn read_input<R: Read>(reader: &mut R, buffer: &mut [u8]) -> Result<usize, E
     let mut n = 0;
     // No plainer in the library: `read_to_end` wants a Vec (no heap), and `read_exact` does not say how many bytes came.
     while n < buffer.len() {
-        match reader.read(&mut buffer[n..])? {
-            0 => break,
-            k => n += k,
+        match what_came(reader.read(&mut buffer[n..]))? {
+            None => break,
+            Some(k) => n += k,
         }
     }
     Ok(n)
+}
+
+// What the reader's answer means: so many bytes, or with 0 the end of the input. A failure stays one. `read_input` can say of a failure only
+// that it may come, since a reader may fail at any time: that nothing else is taken for one is said here.
+fn what_came(answer: Result<usize, Error>) -> Result<Option<usize>, Error>
+    ensures { result ≡ came answer }
+{
+    match answer {
+        Ok(0) => Ok(None),
+        Ok(k) => Ok(Some(k)),
+        Err(e) => Err(e),
+    }
 }
 
 // Room for the longest input that may pass and one byte more: an input that fills it is too long, whatever else follows.
