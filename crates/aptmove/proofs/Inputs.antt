@@ -6,10 +6,11 @@ use mathlib.Core.Bool.{Bool, true, false, cond}
 use mathlib.Core.List.{List, []}
 use lib.ListN.{length, take}
 use lib.Seq.{length-take-le}
+use Rattle.io.specs.Counts.{IsPrefixLen}
 use borrow.Author.Tests.{lt-ltb, le-ltb}
 use Rattle.rules.specs.Table.{plan_count}
 use Rattle.rules.specs.WaitFor.{first_version}
-use Rattle.rules.specs.Answers.{◌and_then◌, Outcome, Verdict, Done}
+use Rattle.rules.specs.Answers.{◌and_then◌, Outcome, Done}
 use Rattle.rules.specs.Program.{line}
 use Rattle.rules.specs.declared.Refusal.{Refusal}
 use Rattle.rules.specs.declared.Refusal.TheVariants.{InputLong}
@@ -17,7 +18,7 @@ use Rattle.rules.proofs.Outcomes.{pass, pass_last, stop, then_done, then_next, t
 use Rattle.versions.specs.Versions.{in_version1, in_version2, check_to1, check_to2, room_check, move_answer, move_output}
 use Rattle.versions.proofs.Laid.{length_1, length_2, nodes_within}
 use Rattle.versions.proofs.Moves.{has_plans, from_second, was_moved, was_refused, written_first}
-use Rattle.aptmove.specs.Moving.{check, moved, printed, complained, on_output, on_error, Within}
+use Rattle.aptmove.specs.Moving.{check, moved, printed, complained}
 use Rattle.std.specs.Prelude.{Ok, Err}
 
 module _ (input : List ℕ) where
@@ -82,38 +83,33 @@ module _ (input : List ℕ) where
   if_refused why e = (rw (e, printed) refl, rw (e, complained) refl)
 
   -- so a move into a buffer with room for it leaves what is written
-  record Reported (v : Verdict) (out : List ℕ) : Type 0 where
-    pub within : Within v out
-    pub output : on_output v out ≡ printed input
-    pub error : on_error v ≡ complained input
+  module _ (before after : List ℕ) (room : 4096 ≤ length before) (same : length after ≡ length before)
+      (left : after ≡ move_output (check input) (moved input) before) where
+    module _ (end : ℕ) (answer : Ok end ≡ move_answer (check input) (moved input) before) where
+      done : check input ≡ Done
+      done = first_done _ _ (was_moved _ _ _ _ answer).0
 
-  reported :
-      (v : Verdict) (before after : List ℕ) → 4096 ≤ length before → length after ≡ length before
-      → v ≡ move_answer (check input) (moved input) before
-      → after ≡ move_output (check input) (moved input) before
-      → Reported v after
-  reported (Ok end) before after room same answer left =
-      let is = was_moved _ _ _ _ (answer) in
-      let done = first_done _ _ is.0 in
-      let written = ap (λ (k : ℕ). take k after) is.1 ∙ ap (take (length (moved input))) left ∙ written_first _ _ _ is.0 in
-      let says = if_done done in
-      let short = fits done in
-      record {
-        within = (omega arith, sym (length-take-le _ _ (omega arith)));
-        output = written ∙ sym says.0;
-        error = sym says.1;
-      }
-  reported (Err why) before after room same answer left =
-      let says = if_refused why (never_short why before room (was_refused _ _ _ _ (answer))) in
-      record { within = tt; output = sym says.0; error = sym says.1 }
+      size : end ≡ length (moved input)
+      size = (was_moved _ _ _ _ answer).1
 
-  module _ (v : Verdict) (before after : List ℕ) (room : 4096 ≤ length before) (same : length after ≡ length before)
-      (answer : v ≡ move_answer (check input) (moved input) before) (left : after ≡ move_output (check input) (moved input) before) where
-    pub lies_within : Within v after
-    lies_within = (reported v before after room same answer left).within
+      pub table_lies : IsPrefixLen end after
+      table_lies = let fit = fits done in let is = size in (omega arith, sym (length-take-le _ _ (omega arith)))
 
-    pub goes_out : on_output v after ≡ printed input
-    goes_out = (reported v before after room same answer left).output
+      pub table_is : take end after ≡ printed input
+      table_is =
+          ap (λ (k : ℕ). take k after) size ∙ ap (take (length (moved input))) left
+          ∙ written_first _ _ _ (was_moved _ _ _ _ answer).0
+          ∙ sym (if_done done).0
 
-    pub is_told : on_error v ≡ complained input
-    is_told = (reported v before after room same answer left).error
+      pub no_complaint : [] ≡ complained input
+      no_complaint = sym (if_done done).1
+
+    module _ (why : Refusal) (answer : Err why ≡ move_answer (check input) (moved input) before) where
+      refused : check input ≡ Err why
+      refused = never_short why before room (was_refused _ _ _ _ answer)
+
+      pub no_table : [] ≡ printed input
+      no_table = sym (if_refused why refused).0
+
+      pub complaint_is : line 0 (Err why) ≡ complained input
+      complaint_is = sym (if_refused why refused).1

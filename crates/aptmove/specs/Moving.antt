@@ -1,10 +1,11 @@
 -- Document 02 (vi): the program `aptmove`, from the bytes of its input to those that it writes. Assumes nothing.
-use Rattle.std.specs.Prelude.{ℕ, length, take, ltb, Ok, Err}
+use Rattle.std.specs.Prelude.{ℕ, length, take, ltb, Result, Ok, Err}
 use Rattle.std.proofs.Math.Bool.{cond}
 use mathlib.Core.List.{List, []}
 use Rattle.io.specs.Counts.{IsPrefixLen}
+use Rattle.arrayvec.specs.ArrayVec.{ArrayVec}
 use Rattle.rules.specs.WaitFor.{first_version}
-use Rattle.rules.specs.Answers.{◌and_then◌, refuse_if, Outcome, Verdict}
+use Rattle.rules.specs.Answers.{◌and_then◌, refuse_if, Outcome}
 use Rattle.rules.specs.Program.{line}
 use Rattle.rules.specs.declared.Refusal.TheVariants.{InputLong}
 use Rattle.versions.specs.Versions.{in_version1, in_version2, check_to1, check_to2}
@@ -30,16 +31,20 @@ module _ (input : List ℕ) where
   unfolding check
   complained = elim check [ Ok tt ↦ [] | Err why ↦ line 0 (Err why) ]
 
--- what goes on each of the two, by what is answered and the bytes of the buffer
-abbrev pub on_output : Verdict → List ℕ → List ℕ
-on_output (Ok end) out = take end out
-on_output (Err why) out = []
+-- what is answered: where the table ends in the buffer, or a line
+abbrev pub Report : Type 0
+Report = Result ℕ (ArrayVec ℕ)
 
-abbrev pub on_error : Verdict → List ℕ
+-- what goes on each of the two, by what is answered and the bytes of the buffer
+abbrev pub on_output : Report → List ℕ → List ℕ
+on_output (Ok end) out = take end out
+on_output (Err told) out = []
+
+abbrev pub on_error : Report → List ℕ
 on_error (Ok end) = []
-on_error (Err why) = line 0 (Err why)
+on_error (Err told) = told.items
 
 -- the buffer has these bytes
-abbrev pub Within : Verdict → List ℕ → Type 0
+abbrev pub Within : Report → List ℕ → Type 0
 Within (Ok end) out = IsPrefixLen end out
-Within (Err why) out = Unit {0}
+Within (Err told) out = Unit {0}

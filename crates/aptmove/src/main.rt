@@ -1,13 +1,13 @@
 // The program `aptmove` of document 02 (vi): a plan table on standard input, the moved one on standard output; version 1 becomes 2, and 2
 // becomes 1. A table that is refused leaves standard output empty, and standard error has the line for the refusal. `report` is the whole
-// of it on slices, and `bytes` those of the line, which `main` hands over in one write: their contracts fix every byte of both. Where
-// standard input cannot be read to its end there is no table: `main` says so on standard error. Assumes what crate `text` does of the
-// system's read and write.
+// of it on a slice: its contract fixes every byte of both, and `main` hands them over in one write. Where standard input cannot be read to
+// its end there is no table: `main` says so on standard error. Assumes what crate `text` does of the system's read and write.
 #![tactic(auto)]
 
 ghost use Rattle.std.specs.Prelude.{◌≡◌, ◌≤◌, length, Err};
 ghost use Rattle.rules.specs.WaitFor.{first_version};
 ghost use Rattle.versions.specs.Versions.{move_answer, move_output};
+ghost use Rattle.rules.specs.Program.{line};
 ghost use Rattle.aptmove.specs.Moving.{check, moved, printed, complained, on_output, on_error, Within};
 
 use arrayvec::ArrayVec;
@@ -27,26 +27,29 @@ fn main(rt: HostRuntime) {
                 let _ = eprintln!(rt; "aptmove: standard output cannot be written");
             }
         }
-        Err(why) => {
-            let _ = rt.stderr().write_all(&bytes(why));
+        Err(line) => {
+            let _ = rt.stderr().write_all(&line);
         }
     }
 }
 
-// Puts the moved table of an input at the start of `out`, for standard output, and answers where it ends; or why there is none, for
-// standard error.
-#[tactic(auto, using(crate::proofs::Inputs::lies_within, crate::proofs::Inputs::goes_out, crate::proofs::Inputs::is_told))]
-fn report(input: &[u8], out: &mut [u8; 4096]) -> Result<u16, Refusal>
+// Puts the moved table of an input at the start of `out`, for standard output, and answers where it ends; or the line that says why there is
+// none, for standard error.
+#[tactic(auto, using(crate::proofs::Inputs::table_lies, crate::proofs::Inputs::table_is, crate::proofs::Inputs::no_complaint, crate::proofs::Inputs::no_table, crate::proofs::Inputs::complaint_is))]
+fn report(input: &[u8], out: &mut [u8; 4096]) -> Result<u16, ArrayVec<u8, 71>>
     ensures within { Within result out.new }
     ensures output { on_output result out.new ≡ printed input.now }
     ensures error { on_error result ≡ complained input.now }
 {
-    answer(input, out)
+    match answer(input, out) {
+        Ok(end) => Ok(end),
+        Err(why) => Err(bytes(why)),
+    }
 }
 
 // The bytes of the line for a refusal.
 fn bytes(why: Refusal) -> ArrayVec<u8, 71>
-    ensures { result.items ≡ on_error (Err why) }
+    ensures { result.items ≡ line 0 (Err why) }
 {
     let mut out = ArrayVec::new();
     put_refusal(why, &mut out);
