@@ -64,8 +64,10 @@ pub fn take_over(new: &[u8], states: &mut [u8])
     requires { length states.old ≤ length new.now }
     ensures { states.new ≡ take (length states.old) new.now }
 {
-    let n = states.len();
-    states.copy_from_slice(&new[..n]);
+    // place by place, and no `copy_from_slice`: a host in C would have to bring a memmove for it, beside memcpy and memset
+    for (p, state) in states.iter_mut().enumerate() {
+        *state = new[p];
+    }
 }
 
 // Whether the new states are the states.
