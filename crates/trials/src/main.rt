@@ -9,7 +9,7 @@
 //   judge RULE TABLE RECORD               checks a record
 //   up TABLE OUTPUT                       moves a table to version 2, and shows the output that it leaves
 //   down TABLE OUTPUT                     moves a table to version 1, likewise
-// with bytes in hexadecimal (see `bytes_of`) and numbers in decimal. A line that begins with `#` is printed as it is,
+// with bytes in hexadecimal (see `read_bytes`) and numbers in decimal. A line that begins with `#` is printed as it is,
 // and an empty one as well.
 // Assumes of the system's read that the buffer is given the bytes of standard input, of its write that what is printed is written, and that
 // the input is at most 262,144 bytes.
@@ -64,10 +64,10 @@ fn run_line<P: Print>(rt: &P, line: &[u8]) {
         }
         Some(b't') => run_table(rt, line),
         Some(b's') => run_sub_tree(rt, line),
-        Some(b'm') => print_left(rt, run_step(rt, line, 3)),
-        Some(b'r') => print_left(rt, run_rest(rt, line, 3, 5)),
-        Some(b'w') => print_both(rt, run_step(rt, line, 5)),
-        Some(b'l') => print_both(rt, run_rest(rt, line, 5, 6)),
+        Some(b'm') => run_step(rt, line, 3, print_left),
+        Some(b'r') => run_rest(rt, line, 3, 5, print_left),
+        Some(b'w') => run_step(rt, line, 5, print_both),
+        Some(b'l') => run_rest(rt, line, 5, 6, print_both),
         Some(b'b') => run_bound(rt, line),
         Some(b'j') => run_judge(rt, line),
         Some(b'u') => run_move(rt, line, versions::to_version_2),
@@ -94,23 +94,22 @@ fn digit(b: u8) -> u32
     char::from(b).to_digit(16).unwrap_or(0)
 }
 
-// The bytes of a hexadecimal text, as far as there is room. Groups are parted by dots, and one that ends in `*` and a number stands so many
-// times.
-fn bytes_of<const N: usize>(text: &[u8]) -> ArrayVec<u8, N> {
-    let mut bytes = ArrayVec::new();
+// Reads the bytes of a hexadecimal text, as far as there is room. Groups are parted by dots, and one that ends in `*` and a number stands so
+// many times. They are put where they stay: a vector that is handed out is copied, and the room for the copy cleared.
+fn read_bytes<const N: usize>(text: &[u8], bytes: &mut ArrayVec<u8, N>) {
     for group in text.split(|&b| b == b'.') {
         let mut parts = group.splitn(2, |&b| b == b'*');
         let digits = parts.next().unwrap_or(&[]);
         let times = parts.next().map_or(1, |s| number_of(s));
         for _ in 0..times {
-            add_bytes(digits, &mut bytes);
+            add_bytes(digits, bytes);
         }
     }
-    bytes
 }
 
+// Adds as many as there is room for: where there is none, no digit is looked at, however often a group stands.
 fn add_bytes<const N: usize>(text: &[u8], bytes: &mut ArrayVec<u8, N>) {
-    for pair in text.chunks_exact(2) {
+    for pair in text.chunks_exact(2).take(bytes.remaining_capacity()) {
         let _ = bytes.try_push((digit(pair[0]) * 16 + digit(pair[1])) as u8);
     }
 }
@@ -122,14 +121,17 @@ fn number_of(text: &[u8]) -> u32 {
 }
 
 fn run_table<P: Print>(rt: &P, line: &[u8]) {
-    let table: Bytes = bytes_of(field(line, 1));
+    let mut table = Bytes::new();
+    read_bytes(field(line, 1), &mut table);
     print_accepted(rt, table::check_table(&table));
     end_line(rt);
 }
 
 fn run_sub_tree<P: Print>(rt: &P, line: &[u8]) {
-    let table: Bytes = bytes_of(field(line, 1));
-    let states: Bytes = bytes_of(field(line, 2));
+    let mut table = Bytes::new();
+    read_bytes(field(line, 1), &mut table);
+    let mut states = Bytes::new();
+    read_bytes(field(line, 2), &mut states);
     let plan = number_of(field(line, 3)) as usize;
     let _ = println!(rt; "{}", Hex(table::sub_tree(&table, &states, plan)));
 }
@@ -139,26 +141,44 @@ fn rule_of(line: &[u8]) -> u32 {
     number_of(field(line, 1))
 }
 
-// Lends a table, states, words and room for causes, which the field of this number tells, to the step, and answers the states and the causes
-// that it leaves.
-fn run_step<P: Print>(rt: &P, line: &[u8], told: usize) -> (Bytes, Bytes) {
-    let table: Bytes = bytes_of(field(line, 2));
-    let mut states: Bytes = bytes_of(field(line, 3));
-    let words: Bytes = bytes_of(field(line, 4));
-    let mut causes: Bytes = bytes_of(field(line, told));
+// Lends a table, states, words and room for causes, which the field of this number tells, to the step, and shows what it leaves of the states
+// and of the causes.
+fn run_step<P: Print, F: FnOnce(&P, &[u8], &[u8])>(rt: &P, line: &[u8], told: usize, show: F)
+    requires { F.IsAlwaysCallable show }
+{
+    let mut table = Bytes::new();
+    read_bytes(field(line, 2), &mut table);
+    let mut states = Bytes::new();
+    read_bytes(field(line, 3), &mut states);
+    let mut words = Bytes::new();
+    read_bytes(field(line, 4), &mut words);
+    let mut causes = Bytes::new();
+    read_bytes(field(line, told), &mut causes);
     let _ = match step::step(rule_of(line), &table, &mut states, &words, &mut causes) {
         Ok(()) => print!(rt; "done"),
         Err(why) => print!(rt; "{}", Refused(why)),
     };
-    (states, causes)
+    show(rt, &states, &causes);
 }
 
 // The same to the run to rest, under the budget that a field tells.
-fn run_rest<P: Print>(rt: &P, line: &[u8], told: usize, budget: usize) -> (Bytes, Bytes) {
-    let table: Bytes = bytes_of(field(line, 2));
-    let mut states: Bytes = bytes_of(field(line, 3));
-    let words: Bytes = bytes_of(field(line, 4));
-    let mut causes: Bytes = bytes_of(field(line, told));
+fn run_rest<P: Print, F: FnOnce(&P, &[u8], &[u8])>(
+    rt: &P,
+    line: &[u8],
+    told: usize,
+    budget: usize,
+    show: F,
+)
+    requires { F.IsAlwaysCallable show }
+{
+    let mut table = Bytes::new();
+    read_bytes(field(line, 2), &mut table);
+    let mut states = Bytes::new();
+    read_bytes(field(line, 3), &mut states);
+    let mut words = Bytes::new();
+    read_bytes(field(line, 4), &mut words);
+    let mut causes = Bytes::new();
+    read_bytes(field(line, told), &mut causes);
     let budget = (number_of(field(line, budget)) % 65536) as u16;
     let _ = match step::rest(
         rule_of(line),
@@ -172,25 +192,25 @@ fn run_rest<P: Print>(rt: &P, line: &[u8], told: usize, budget: usize) -> (Bytes
         Ok(None) => print!(rt; "moving"),
         Err(why) => print!(rt; "{}", Refused(why)),
     };
-    (states, causes)
+    show(rt, &states, &causes);
 }
 
 // The states that a call leaves. Where the line does not tell what stands in the room for causes, there is as much as the states take, and
 // it is not shown.
-fn print_left<P: Print>(rt: &P, left: (Bytes, Bytes)) {
-    let (states, _) = left;
-    let _ = println!(rt; " {}", Hex(&states));
+fn print_left<P: Print>(rt: &P, states: &[u8], _causes: &[u8]) {
+    let _ = println!(rt; " {}", Hex(states));
 }
 
 // The states and the causes.
-fn print_both<P: Print>(rt: &P, left: (Bytes, Bytes)) {
-    let (states, causes) = left;
-    let _ = println!(rt; " {} {}", Hex(&states), Hex(&causes));
+fn print_both<P: Print>(rt: &P, states: &[u8], causes: &[u8]) {
+    let _ = println!(rt; " {} {}", Hex(states), Hex(causes));
 }
 
 fn run_bound<P: Print>(rt: &P, line: &[u8]) {
-    let table: Bytes = bytes_of(field(line, 1));
-    let words: Bytes = bytes_of(field(line, 2));
+    let mut table = Bytes::new();
+    read_bytes(field(line, 1), &mut table);
+    let mut words = Bytes::new();
+    read_bytes(field(line, 2), &mut words);
     let _ = match bound::bound(&table, &words) {
         Ok(Some(k)) => println!(rt; "within {k}"),
         Ok(None) => println!(rt; "unknown"),
@@ -199,9 +219,11 @@ fn run_bound<P: Print>(rt: &P, line: &[u8]) {
 }
 
 fn run_judge<P: Print>(rt: &P, line: &[u8]) {
-    let table: Bytes = bytes_of(field(line, 2));
+    let mut table = Bytes::new();
+    read_bytes(field(line, 2), &mut table);
     // Room for the header and one step too many of a record of one plan.
-    let steps: ArrayVec<u8, 327688> = bytes_of(field(line, 3));
+    let mut steps = ArrayVec::<u8, 327688>::new();
+    read_bytes(field(line, 3), &mut steps);
     print_accepted(rt, record::check(rule_of(line), &table, &steps));
     end_line(rt);
 }
@@ -214,8 +236,10 @@ fn run_move<P: Print, F: FnOnce(&[u8], &mut [u8]) -> Result<u16, Refusal>>(
 )
     requires { F.IsAlwaysCallable to_version }
 {
-    let table: Bytes = bytes_of(field(line, 1));
-    let mut output: Bytes = bytes_of(field(line, 2));
+    let mut table = Bytes::new();
+    read_bytes(field(line, 1), &mut table);
+    let mut output = Bytes::new();
+    read_bytes(field(line, 2), &mut output);
     print_accepted(rt, to_version(&table, &mut output));
     let _ = println!(rt; " {}", Hex(&output));
 }
