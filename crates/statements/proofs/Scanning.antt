@@ -1,5 +1,6 @@
 -- Stretches of bytes, and digits, byte by byte as the code goes. Assumes nothing.
-use Rattle.std.proofs.Common.{◌≡◌, ℕ, ◌+◌, ◌-◌, ◌*◌, ◌^◌, ◌<◌, ◌≤◌, Bool, true, false, ◌&&◌, leb, List, length, get_or, drop, refl, ap, ◌∙◌, pow-suc, add-one, arith, drop_of_length-le, drop-cons, leb-true, Option, None, Some}
+use Rattle.std.proofs.Common.{◌≡◌, ℕ, ◌+◌, ◌-◌, ◌*◌, ◌^◌, ◌<◌, ◌≤◌, Bool, true, false, ◌&&◌, leb, List, [], ◌∷◌, length, get_or, drop, refl, ap, ◌∙◌, pow-suc, add-one, arith, drop_of_length-le, drop-cons, leb-true, Option, None, Some}
+use native.Mathlib.Nat.{pow-le-pow_right}
 use mathlib.Core.Bool.{false≢true}
 use Rattle.std.specs.List.{prefix_len, HoldsAt, AllWithin}
 use Rattle.std.specs.Option.{MatchOption, unwrap_or}
@@ -51,3 +52,12 @@ is_digit_lem b e =
 -- one digit more stays below the next power of ten
 pub next_power : (v b i : ℕ) → v < 10 ^ i → is_digit b ≡ true → 10 * v + (b - 48) < 10 ^ (i + 1)
 next_power v b i l e = omega (arith, pow-suc 10 i, ap (λ (k : ℕ). 10 ^ k) (add-one i), (is_digit_lem b e).high)
+
+-- and ten digits fit
+pub fits_ten : (v d i : ℕ) → v < 10 ^ i → d ≤ 9 → i < 10 → 10 * v + d < 10000000000
+fits_ten v d i lv ld li = omega (arith, pow-le-pow_right {n = 10} (omega arith) {i = i} {j = 9} (omega arith))
+
+-- where a byte other than 0 stands first, there is one
+pub some_byte : (s : List ℕ) → get_or s 0 0 ≡ 45 → 1 ≤ length s
+some_byte [] e = absurd (omega arith)
+some_byte (b ∷ s) e = omega arith
