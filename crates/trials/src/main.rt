@@ -25,11 +25,15 @@ use std::io::{Print, Read};
 // Bytes that are lent to a call. No table, states, words or causes of a trial take more.
 type Bytes = ArrayVec<u8, 4096>;
 
+// Room for a record: for the header and one step too many of one plan. `main` makes it once, since to clear it takes longer than most lines.
+type Steps = ArrayVec<u8, 327688>;
+
 fn main(rt: HostRuntime) {
     let mut input = input_buffer();
     let n = read_full(&mut rt.stdin(), &mut input);
+    let mut steps = Steps::new();
     for line in input[..n].split_inclusive(|&b| b == b'\n') {
-        run_line(&rt, line.strip_suffix(b"\n").unwrap_or(line));
+        run_line(&rt, line.strip_suffix(b"\n").unwrap_or(line), &mut steps);
     }
 }
 
@@ -55,7 +59,7 @@ fn read_full<R: Read>(reader: &mut R, buffer: &mut [u8]) -> usize
     n
 }
 
-fn run_line<P: Print>(rt: &P, line: &[u8]) {
+fn run_line<P: Print>(rt: &P, line: &[u8], steps: &mut Steps) {
     match line.first() {
         None => end_line(rt),
         Some(b'#') => {
@@ -69,7 +73,7 @@ fn run_line<P: Print>(rt: &P, line: &[u8]) {
         Some(b'w') => run_step(rt, line, 5, print_both),
         Some(b'l') => run_rest(rt, line, 5, 6, print_both),
         Some(b'b') => run_bound(rt, line),
-        Some(b'j') => run_judge(rt, line),
+        Some(b'j') => run_judge(rt, line, steps),
         Some(b'u') => run_move(rt, line, versions::to_version_2),
         Some(b'd') => run_move(rt, line, versions::to_version_1),
         Some(_) => {
@@ -218,13 +222,12 @@ fn run_bound<P: Print>(rt: &P, line: &[u8]) {
     };
 }
 
-fn run_judge<P: Print>(rt: &P, line: &[u8]) {
+fn run_judge<P: Print>(rt: &P, line: &[u8], steps: &mut Steps) {
     let mut table = Bytes::new();
     read_bytes(field(line, 2), &mut table);
-    // Room for the header and one step too many of a record of one plan.
-    let mut steps = ArrayVec::<u8, 327688>::new();
-    read_bytes(field(line, 3), &mut steps);
-    print_accepted(rt, record::check(rule_of(line), &table, &steps));
+    steps.clear();
+    read_bytes(field(line, 3), steps);
+    print_accepted(rt, record::check(rule_of(line), &table, steps));
     end_line(rt);
 }
 
